@@ -21,7 +21,7 @@ use Rattle.ae_delay.specs.Costs.{all_costs, func_costs}
 use Rattle.ae_alike.specs.ByFunction.{laid, own_op, own_nodes, own_func, call_costs, costs_by, costs_of, CostsAreByFunction}
 use Rattle.ae_alike.proofs.Nodes.{AllSame, plain-costs, plain-no-body, same-layouts, timings-same}
 use Rattle.ae_alike.proofs.Same.{by-costs, key-costs}
-use Rattle.ae_alike.proofs.Failing.{length-grown}
+use Rattle.ae_seq.proofs.Items.{length-grown}
 
 ins-own : (clocks : ℕ) (ps : List ParamTree) (ss : List StTree) → param_layouts clocks ps ≡ map (λ (s : StTree). Some s) ss
     → ss ≡ map (λ (q : ParamTree). laid (lay_of q.type clocks)) ps

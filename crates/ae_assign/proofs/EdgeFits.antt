@@ -7,7 +7,7 @@ use Rattle.ae_netlist.specs.declared.cell.SizedCell.{SizedCell}
 use Rattle.ae_netlist.specs.Circuit.{Circuit, IsNet, IsAddress, IsWritten}
 use Rattle.ae_netlist.specs.Circuit.{width_of as net_width_of}
 use Rattle.ae_netlist.specs.Runs.{Clock, word_at, store_at}
-use Rattle.ae_netlist.proofs.Growing.{Keeps, keeps_extends, net_width}
+use Rattle.ae_netlist.proofs.Growing.{Keeps, keeps_extends, net_width, address_later, written_later}
 use Rattle.ae_netlist.proofs.Gets.{get_left, get_set_other}
 use Rattle.ae_vread.specs.declared.module.NetKind.{NetKind}
 use Rattle.ae_vread.specs.declared.module.NetKind.TheVariants.{Input, Wire, OutWire, Reg, OutReg, Memory}
@@ -26,18 +26,6 @@ use Rattle.ae_judge.proofs.Members.{among_at, among_left, among_right}
 use Rattle.ae_order.proofs.SoundLaws.{named_width}
 use Rattle.ae_gates.proofs.Words.{net_grows}
 use Rattle.ae_express.proofs.NetLaws.{name_net, nets_grow}
-
--- an address stays one
-address_later : (a b : List SizedCell) (at depth : ℕ) → Keeps a b → IsAddress a at depth → IsAddress b at depth
-address_later a b at depth k h =
-    let e : net_width_of b at ≡ net_width_of a at = net_width (k.nets at _ h.net) in
-    record {
-      net = rw e (k.nets at _ h.net);
-      inside = elim h.inside [ inl u ↦ inl (rw e u) | inr u ↦ inr (k.constants at depth u) ];
-    }
-
-pub written_later : (a b : List SizedCell) (w depth at next enable : ℕ) → Keeps a b → IsWritten a w depth at next enable → IsWritten b w depth at next enable
-written_later a b w depth at next enable k h = record { address = address_later a b at depth k h.address; word = k.nets _ _ h.word; bit = k.nets _ _ h.bit }
 
 pub address_grows : (a b : Circuit) (at depth : ℕ) → Grows a b → IsAddress a.cells at depth → IsAddress b.cells at depth
 address_grows a b at depth g h = address_later a.cells b.cells at depth (keeps_extends g.extends) h

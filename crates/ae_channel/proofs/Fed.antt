@@ -11,7 +11,7 @@ use Rattle.ae_word.proofs.Sizes.{length-atom_kinds}
 use Rattle.ae_seqtype.specs.SeqTree.{SeqTree, atom, seq, atoms, atom_of, kinds, repeated}
 use Rattle.ae_seqtype.specs.ValueTree.{FitKinds, Stands, ValueTree, flat}
 use Rattle.ae_seqtype.proofs.Sizes.{length-repeated}
-use Rattle.ae_seqtype.proofs.Stands.{FitKinds-append, length-Fit, length-FitKinds, repeated-one}
+use Rattle.ae_seqtype.proofs.Stands.{FitKinds-append, length-Fit, length-FitKinds, repeated-one, repeated-add as repeated_add, repeated-mul as repeated_mul}
 use Rattle.ae_seqtype.proofs.Values.{flat-value_of}
 use Rattle.ae_sttype.specs.declared.st_type.Slot.{Slot}
 use Rattle.ae_sttype.specs.StTree.{StTree, element_atom, element_words, st_atoms}
@@ -46,28 +46,15 @@ use Rattle.ae_compile.proofs.Inputs.{circuit_columns}
 use Rattle.ae_stream.specs.Fed.{CanBeFed, ShowsClock}
 use Rattle.ae_streamed.proofs.Within.{slot_in}
 use Rattle.ae_channel.proofs.Asked.{has_first, has_reset}
+use Rattle.ae_eval.proofs.Combining.{kinds-repeated as kinds_again}
+use Rattle.ae_flow.proofs.MeaningProgram.{flat-stands as flat_stands}
+use Rattle.ae_lower.proofs.Layouts.{as_many_values as as_long}
+use Rattle.ae_correct.proofs.FedInputs.{count_first}
 
 -- ---- the words of a value fit its type and its layout
 
-repeated_add : {A : Type 0} (n m : ℕ) (xs : List A) → repeated (n + m) xs ≡ repeated n xs ++ repeated m xs
-repeated_add zero m xs = rw (zero-add m) refl
-repeated_add (suc n) m xs = rw (suc-add n m, append_assoc) (ap (λ ys. xs ++ ys) (repeated_add n m xs))
-
-repeated_mul : {A : Type 0} (n m : ℕ) (xs : List A) → repeated (n * m) xs ≡ repeated n (repeated m xs)
-repeated_mul zero m xs = rw (zero-mul m) refl
-repeated_mul (suc n) m xs =
-    let sum : suc n * m ≡ m + n * m = omega arith in
-    rw (sum, repeated_add m (n * m) xs, repeated_mul n m xs) refl
-
-kinds_again : (t : SeqTree) → kinds t ≡ repeated (atoms t) (atom_kinds (atom_of t))
-kinds_again (atom a) = sym (repeated-one (atom_kinds a))
-kinds_again (seq n t) = ap (λ (ks : List WordKind). repeated n ks) (kinds_again t) ∙ sym (repeated_mul n (atoms t) (atom_kinds (atom_of t)))
-
 kinds_laid : (t : SeqTree) (s : StTree) → LaysOut t s → kinds t ≡ value_kinds s
 kinds_laid t s h = kinds_again t ∙ ap (λ a. repeated (atoms t) (atom_kinds a)) (sym h.atom) ∙ ap (λ k. repeated k (atom_kinds (element_atom s))) (sym h.atoms)
-
-flat_stands : (t : SeqTree) (ws : List ℕ) (v : ValueTree) → Stands t ws v → flat v ≡ ws
-flat_stands t ws v h = ap flat (sym h.value) ∙ flat-value_of t ws (length-Fit t ws h.fits)
 
 flat_fits : (t : SeqTree) (s : StTree) (ws : List ℕ) (v : ValueTree) → LaysOut t s → Stands t ws v → FitKinds (flat v) (value_kinds s)
 flat_fits t s ws v l h = subst (λ xs. FitKinds xs (value_kinds s)) (sym (flat_stands t ws v h)) (subst (FitKinds ws) (kinds_laid t s l) h.fits)
@@ -131,27 +118,7 @@ blocks_are ts ss vs l h =
     let whole : take (size_of ss) (flat_map flat vs) ≡ flat_map flat vs = take_all (size_of ss) (flat_map flat vs) (omega (arith, all_long ts ss vs l h)) in
     (λ i. values_of ss (whole i) ∷ []) ∙ ap (λ xs. xs ∷ []) (values_are ts ss vs l h)
 
-as_long : (ts : List SeqTree) (ss : List StTree) (vs : List ValueTree) → AllLaidOut ts ss → AreValues ts vs → length vs ≡ length ss
-as_long [] [] [] l h = refl
-as_long [] [] (v ∷ vs) l h = absurd h
-as_long [] (s ∷ ss) vs l h = absurd l
-as_long (t ∷ ts) [] vs l h = absurd l
-as_long (t ∷ ts) (s ∷ ss) [] l h = absurd h
-as_long (t ∷ ts) (s ∷ ss) (v ∷ vs) l h = ap suc (as_long ts ss vs l.1 h.1)
-
 -- ---- the number of an input
-
-count_first : (cells : List SizedCell) (ports : List SizedPort) (k : ℕ) → take (length ports) cells ≡ map input_cell ports → k ≤ length ports
-    → count_of is_input (take k cells) ≡ k
-count_first cells ports zero h below = refl
-count_first cells [] (suc k) h below = absurd (omega (arith, below))
-count_first [] (p ∷ ports) (suc k) h below = cc
-count_first (c ∷ cells) (p ∷ ports) (suc k) h below =
-    let head : c ≡ input_cell p = cc in
-    let rest : take (length ports) cells ≡ map input_cell ports = cc in
-    let counted : SizedCell → ℕ = λ x. cond (is_input x.cell) 1 0 in
-    let one : counted c ≡ 1 = ap counted head in
-    omega (arith, sum_by-cons counted c (take k cells), one, count_first cells ports k rest (omega (arith, below)))
 
 module _ (p : ProgramTree) (slowdown : ℕ) (costs : OwnCosts) (ins outs : List StTree) (n : Circuit) (laid : IsLaidOut p slowdown ins outs)
     (c : IsCircuitFor p slowdown costs ins outs n)

@@ -29,7 +29,7 @@ logic_only _ h = refl
 -- ---- one more cell
 
 -- a net keeps its width
-stays : (cells : List SizedCell) (sized : SizedCell) (n w : ℕ) → IsNet cells n w → width_of (cells ++ sized ∷ []) n ≡ width_of cells n
+pub stays : (cells : List SizedCell) (sized : SizedCell) (n w : ℕ) → IsNet cells n w → width_of (cells ++ sized ∷ []) n ≡ width_of cells n
 stays cells sized n w h = net_width (net_later (extends_append cells (sized ∷ [])) h) ∙ sym (net_width h)
 
 written_in : (cells : List SizedCell) (m w d : ℕ) (at next enable : NetId) → IsFormed cells

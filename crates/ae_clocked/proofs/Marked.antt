@@ -17,7 +17,7 @@ bit_is n false e = e
 -- ---- one counter told by another
 
 -- a number below three periods is its rest, and up to two periods more
-near : (p n : ℕ) → n < p + p + p → (n ≡ n % p) ⊎ ((n ≡ n % p + p) ⊎ (n ≡ n % p + p + p))
+pub near : (p n : ℕ) → n < p + p + p → (n ≡ n % p) ⊎ ((n ≡ n % p + p) ⊎ (n ≡ n % p + p + p))
 near p n h = elim (cases_lt n p) [
   | inl l ↦ inl (sym (mod-eq_of_lt l))
   | inr ge ↦ elim (cases_lt (n - p) p) [
@@ -32,7 +32,7 @@ near p n h = elim (cases_lt n p) [
 ]
 
 -- the same number more, below two periods, keeps numbers below a period apart
-apart : (p x q s : ℕ) → x < p → q < p → s < p + p → (x + s) % p ≡ (q + s) % p → x ≡ q
+pub apart : (p x q s : ℕ) → x < p → q < p → s < p + p → (x + s) % p ≡ (q + s) % p → x ≡ q
 apart p x q s lx lq ls e =
     let a = near p (x + s) (omega arith) in
     let b = near p (q + s) (omega arith) in

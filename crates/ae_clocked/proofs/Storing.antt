@@ -16,7 +16,7 @@ use Rattle.ae_netlist.proofs.Counting.{count_push}
 use Rattle.ae_netlist.proofs.Shapes.{clock_shaped, cell_holds}
 use Rattle.ae_clocked.specs.Signals.{Grows, Adds, IsConstant, is_test}
 use Rattle.ae_clocked.proofs.Added.{IsAdded, grows_length, net_within, own_net}
-use Rattle.ae_clocked.proofs.Adding.{grows_trans, adds_same}
+use Rattle.ae_clocked.proofs.Adding.{grows_trans, adds_same, stays}
 use Rattle.ae_clocked.specs.Rings.{AddsMemories, IsStore, IsLook}
 
 abbrev pub memory_cell : (w d : ℕ) → NetId → NetId → NetId → SizedCell
@@ -26,9 +26,6 @@ abbrev pub peek_cell : ℕ → NetId → NetId → SizedCell
 peek_cell w m at = record { width = w; cell = Peek m at }
 
 -- ---- what was there
-
-stays : (cells : List SizedCell) (sized : SizedCell) (n w : ℕ) → IsNet cells n w → width_of (cells ++ sized ∷ []) n ≡ width_of cells n
-stays cells sized n w h = net_width (net_later (extends_append cells (sized ∷ [])) h) ∙ sym (net_width h)
 
 written_in : (cells : List SizedCell) (m w d : ℕ) (at next enable : NetId) → IsFormed cells → slice_get cells m ≡ Some (memory_cell w d at next enable)
     → enable.0 ≢ m → IsNet cells at.0 (width_of cells at.0)

@@ -11,7 +11,7 @@ use Rattle.ae_netlist.proofs.Shapes.{clock_shaped, cell_holds}
 pub one_fits : (w : ℕ) → 1 ≤ w → 1 < 2 ^ w
 one_fits w h = pow-lt {i = 0} {j = w} (omega arith)
 
-bit_chooses : (v : Bool) (x y : ℕ) → (if (if v then 1 else 0) == 1 then x else y) ≡ (if v then x else y)
+pub bit_chooses : (v : Bool) (x y : ℕ) → (if (if v then 1 else 0) == 1 then x else y) ≡ (if v then x else y)
 bit_chooses true x y = refl
 bit_chooses false x y = refl
 

@@ -5,6 +5,7 @@ use Rattle.ae_seq.specs.ProgramTree.{FuncTree, ProgramTree}
 use Rattle.ae_seq.specs.Formed.{all_below, all_distinct, formed_func, formed_funcs, formed_nodes, formed_params, func_names, is_name, item_count, line_count, most_results, named_items, within}
 use Rattle.ae_eval.specs.Stack.{IsTyped}
 use Rattle.ae_eval.proofs.Items.{and-both}
+use Rattle.ae_rewrite.proofs.Forms.{few_most as most}
 
 and_five : (a b c d e : Bool) → (a && b && c && d && e) ≡ true → e ≡ true
 and_five false b c d e h = cc
@@ -20,14 +21,6 @@ and_seven true true false d e f g h = cc
 and_seven true true true false e f g h = cc
 and_seven true true true true false f g h = cc
 and_seven true true true true true f g h = (refl, refl)
-
-most : (v : ℕ) (fs : List FuncTree) → most_results v fs ≤ 8
-most v [] = by (v == 2)
-  where
-    by : (t : Bool) → (if t then 8 else 1) ≤ 8
-    by true = omega arith
-    by false = omega arith
-most v (f ∷ fs) = omega arith
 
 pub record FewItems (f : FuncTree) : Type 0 where
   pub some : 1 ≤ length f.params

@@ -19,6 +19,7 @@ use Rattle.ae_ports.specs.CircuitFor.{IsCircuitFor}
 use Rattle.ae_delay.specs.declared.own.OwnCosts.{OwnCosts}
 use Rattle.ae_seq.specs.ProgramTree.{ProgramTree}
 use Rattle.ae_play.specs.Fits.{HasColumns, lane_kinds}
+use Rattle.ae_correct.proofs.Nets.{inputs_kept}
 
 abbrev port_widths : List SizedPort → List ℕ
 port_widths ps = map (λ (p : SizedPort). p.width) ps
@@ -56,10 +57,6 @@ all_widths at k (s ∷ ss) =
 
 abbrev input_test : SizedCell → Bool
 input_test c = is_input c.cell
-
-inputs_kept : (ports : List SizedPort) → filter input_test (map input_cell ports) ≡ map input_cell ports
-inputs_kept [] = refl
-inputs_kept (p ∷ ports) = ap (λ cells. input_cell p ∷ cells) (inputs_kept ports)
 
 inputs_first : (cells : List SizedCell) (ports : List SizedPort) → take (length ports) cells ≡ map input_cell ports → count_of is_input cells ≡ length ports
     → filter input_test cells ≡ map input_cell ports

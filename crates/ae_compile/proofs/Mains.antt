@@ -12,11 +12,12 @@ use Rattle.ae_rewrite.specs.StProgramTree.{StFuncTree, StNodeTree}
 use Rattle.ae_rewrite.specs.Scheduled.{Keys, HasKey, IsSchedule, AreStNodes, node_layouts, param_layouts}
 use Rattle.ae_rewrite.specs.Sound.{IsSound, item_layouts}
 use Rattle.ae_rewrite.specs.Interface.{main_of}
-use Rattle.ae_rewrite.proofs.Forms.{formed-of, few-nodes}
+use Rattle.ae_rewrite.proofs.Forms.{formed-of, few-nodes, both-left as both_left, both-right as both_right}
 use Rattle.ae_headline.specs.Headline.{item_name}
 use Rattle.ae_compile.specs.LineNotes.{AllNamed}
 use Rattle.ae_compile.specs.Costing.{HasParts}
 use Rattle.ae_compile.specs.Mains.{IsInstanceOf}
+use Rattle.ae_flow.proofs.Placed.{nodes_many}
 
 -- ---- the instance of the program function
 
@@ -27,12 +28,6 @@ record MainInstance (p : ProgramTree) (f : FuncTree) (s : StFuncTree) : Type 0 w
 
 as_many : (clocks : ℕ) (ps : List ParamTree) (ss : List StTree) → param_layouts clocks ps ≡ map (λ (x : StTree). Some x) ss → length ss ≡ length ps
 as_many clocks ps ss h = sym (length-map ss (λ (x : StTree). Some x)) ∙ (ap length (sym h) ∙ length-map ps (λ (q : ParamTree). lay_of q.type clocks))
-
-nodes_many : (p : ProgramTree) (keys : Keys) (f u i : ℕ) (ns : List NodeTree) (ss : List StNodeTree) → AreStNodes p keys f u i ns ss → length ss ≡ length ns
-nodes_many p keys f u i [] [] h = refl
-nodes_many p keys f u i [] (t ∷ ss) h = absurd h
-nodes_many p keys f u i (n ∷ ns) [] h = absurd h
-nodes_many p keys f u i (n ∷ ns) (t ∷ ss) h = omega (arith, nodes_many p keys f u (i + 1) ns ss h.1)
 
 main_by : (p : ProgramTree) (slowdown : ℕ) (all : List StFuncTree) (f : FuncTree) (s : StFuncTree) → IsSchedule p slowdown all
     → slice_get p.funcs (main_of p) ≡ Some f → slice_get all (length all - 1) ≡ Some s → MainInstance p f s
@@ -75,14 +70,6 @@ parts_of p slowdown all h =
     record { func = own.of; there = ap (slice_get p.funcs) (sym key.is_func) ∙ own.known; instance = key.instance; last = key.here }
 
 -- ---- names
-
-pub both_left : (a b : Bool) → IsTrue (a && b) → IsTrue a
-both_left true b h = refl
-both_left false b h = h
-
-pub both_right : (a b : Bool) → IsTrue (a && b) → IsTrue b
-both_right true b h = h
-both_right false b h = cc
 
 pub name_plain : (n : List ℕ) → IsTrue (is_name n) → all_name_bytes n ≡ true
 name_plain n h = grind (arith, nat_tests)

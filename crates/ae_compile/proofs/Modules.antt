@@ -42,6 +42,7 @@ use Rattle.ae_compile.specs.Building.{IsModuleText, IsWritten}
 use Rattle.ae_compile.specs.Compiling.{IsCompiled}
 use Rattle.ae_compile.specs.declared.costs.Costs.{Costs}
 use Rattle.ae_compile.specs.Costing.{IsKnown, load_limit, main_costs}
+use Rattle.ae_correct.proofs.Written.{unmapped}
 
 -- ---- columns
 
@@ -68,18 +69,6 @@ pub record HasFewPorts (lines : ℕ → ℕ) (ins outs : List StTree) (n : Circu
   pub inputs : length (net_side.input_ports (streams_of ins)) ≤ 131072
   pub outputs : length n.outlets ≤ 131072
   pub all : length (ports_of (netlist_module lines n.cells n.outlets (length outs))) ≡ 2 + length (net_side.input_ports (streams_of ins)) + length n.outlets
-
--- an entry of a list that is mapped
-pub record IsMapped {A B : Type 0} (f : A → B) (xs : List A) (k : ℕ) (y : B) : Type 0 where
-  pub from : A
-  pub found : slice_get xs k ≡ Some from
-  pub is : f from ≡ y
-
-pub unmapped : {A B : Type 0} (f : A → B) (xs : List A) (k : ℕ) (y : B) → slice_get (map f xs) k ≡ Some y → IsMapped f xs k y
-unmapped f xs k y h =
-    let within : k < length (map f xs) = slice_get_within (map f xs) k y h in
-    let e = entry-at xs k (omega (arith, within, length-map xs f)) in
-    record { from = e.0; found = e.1; is = same_Some (f e.0) y (sym (mapped_at f xs k e.0 e.1) ∙ h) }
 
 -- the layouts of an instance's results are in size
 pub small_results : (instances : List StFuncTree) (s : StFuncTree) → IsSound instances → slice_get instances (last_of instances) ≡ Some s

@@ -15,7 +15,8 @@ use Rattle.ae_verilog.specs.declared.notes.Note.{Note}
 use Rattle.ae_verilog.specs.Notes.{NoteTree, ArePrinted, is_printed, note_tree}
 use Rattle.ae_trace.specs.Traces.{is_movement}
 use Rattle.ae_compile.specs.LineNotes.{AllNamed, item_note, node_note, node_notes, result_notes, told_notes}
-use Rattle.ae_compile.proofs.Mains.{both_left, both_right, name_plain}
+use Rattle.ae_compile.proofs.Mains.{name_plain}
+use Rattle.ae_rewrite.proofs.Forms.{both-left as both_left, both-right as both_right}
 
 byte_printed : (b : ℕ) → is_name_byte b ≡ true → is_printed b ≡ true
 byte_printed b h = grind (arith, nat_tests)

@@ -27,7 +27,8 @@ use Rattle.ae_compile.specs.Compiling.{IsCompiled, IsCompiledStalled, moved_note
 use Rattle.ae_compile.specs.Costing.{IsKnown, load_limit, main_costs}
 use Rattle.ae_compile.specs.LineNotes.{AreLineNotes, item_note, node_note, node_notes, result_notes}
 use Rattle.ae_compile.proofs.Mains.{main_item_short, main_items, main_short}
-use Rattle.ae_compile.proofs.Modules.{few_ports, unmapped}
+use Rattle.ae_compile.proofs.Modules.{few_ports}
+use Rattle.ae_correct.proofs.Written.{unmapped}
 
 -- a note tells the name of a node and the layout of its item
 record IsToldOf (layouts : List StTree) (i : ℕ) (ns : List NodeTree) (k : ℕ) (n : NoteTree) : Type 0 where

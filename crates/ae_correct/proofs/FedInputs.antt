@@ -26,7 +26,7 @@ use Rattle.ae_correct.proofs.Clocks.{input_alike, column_in}
 
 -- ---- the number of an input
 
-count_first : (cells : List SizedCell) (ports : List SizedPort) (k : ℕ) → take (length ports) cells ≡ map input_cell ports → k ≤ length ports
+pub count_first : (cells : List SizedCell) (ports : List SizedPort) (k : ℕ) → take (length ports) cells ≡ map input_cell ports → k ≤ length ports
     → count_of is_input (take k cells) ≡ k
 count_first cells ports zero h below = refl
 count_first cells [] (suc k) h below = absurd (omega (arith, below))

@@ -47,7 +47,7 @@ none_left : (cells : List SizedCell) → length (filter input_test cells) ≡ 0 
 none_left [] h = tt
 none_left (c ∷ cells) h = let r = split_test c (filter input_test cells) (is_input c.cell) h in (r.0, none_left cells r.1)
 
-inputs_kept : (ports : List SizedPort) → filter input_test (map input_cell ports) ≡ map input_cell ports
+pub inputs_kept : (ports : List SizedPort) → filter input_test (map input_cell ports) ≡ map input_cell ports
 inputs_kept [] = refl
 inputs_kept (p ∷ ports) = ap (λ cells. input_cell p ∷ cells) (inputs_kept ports)
 

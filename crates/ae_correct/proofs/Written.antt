@@ -16,7 +16,7 @@ use Rattle.ae_verilog.specs.Written.{IsWritableNetlist}
 use Rattle.ae_verilog.specs.Text.{PortFits, CellPortFits}
 use Rattle.ae_sttype.specs.StTree.{StTree, lanes, st_atoms, element_words}
 use Rattle.ae_sttype.specs.Size.{IsInSize}
-use Rattle.ae_sttype.proofs.Bounds.{atoms_pos, lanes-le-atoms, lanes_below}
+use Rattle.ae_sttype.proofs.Bounds.{atoms_pos, lanes-le-atoms, lanes_below, product_part as factor_le}
 use Rattle.ae_ops.specs.Blocks.{Stream, stream_of, stream_widths}
 use Rattle.ae_seq.specs.ProgramTree.{ProgramTree}
 use Rattle.ae_eval.proofs.Items.{entry-at}
@@ -35,12 +35,12 @@ use Rattle.ae_correct.proofs.Keeps.{circuit_ports, ins_of, outs_of}
 
 -- ---- an entry of a list that a function made
 
-record IsMapped {A B : Type 0} (f : A → B) (xs : List A) (k : ℕ) (y : B) : Type 0 where
-  from : A
-  found : slice_get xs k ≡ Some from
-  is : f from ≡ y
+pub record IsMapped {A B : Type 0} (f : A → B) (xs : List A) (k : ℕ) (y : B) : Type 0 where
+  pub from : A
+  pub found : slice_get xs k ≡ Some from
+  pub is : f from ≡ y
 
-unmapped : {A B : Type 0} (f : A → B) (xs : List A) (k : ℕ) (y : B) → slice_get (map f xs) k ≡ Some y → IsMapped f xs k y
+pub unmapped : {A B : Type 0} (f : A → B) (xs : List A) (k : ℕ) (y : B) → slice_get (map f xs) k ≡ Some y → IsMapped f xs k y
 unmapped f xs k y h =
     let within : k < length (map f xs) = slice_get_within (map f xs) k y h in
     let e = entry-at xs k (omega (arith, within, length-map xs f)) in
@@ -138,9 +138,6 @@ AreSmall ss = (q : ℕ) (s : StTree) → slice_get ss q ≡ Some s → IsInSize 
 
 product_le : (a b c m : ℕ) → a ≤ b → b * c ≤ m → a * c ≤ m
 product_le a b c m h g = grind arith
-
-factor_le : (a b m : ℕ) → 0 < a → a * b ≤ m → b ≤ m
-factor_le a b m p h = grind arith
 
 few_columns : (s : StTree) → IsInSize s → length (stream_widths (stream_of s)) ≤ 16384
 few_columns s h =

@@ -26,6 +26,7 @@ use Rattle.ae_delay.specs.Costs.{Use, LineLoad, NodeTiming, all_uses, arrivals_o
 use Rattle.ae_delay.specs.Weighing.{AllBelow, AreItems, IsNext, IsOverAt, IsProgress, IsTimed, chained, cost_of, deepened}
 use Rattle.ae_delay.proofs.Chains.{AreUses, chain_append, chained_deepened, deepened_at, length_deepened, mems_at, mems_le}
 use Rattle.ae_delay.proofs.Nodes.{latest_le}
+use Rattle.ae_seq.proofs.Items.{length-grown as length_grown}
 
 -- ---- one node more
 
@@ -108,7 +109,7 @@ over_later limit sum (t ∷ ts) rest h =
 
 -- ---- the end
 
-sum_same : (f g : ℕ → ℕ) (n : ℕ) → ((i : ℕ) → i < n → f i ≡ g i) → sum_by f (range_with_len 0 n) ≡ sum_by g (range_with_len 0 n)
+pub sum_same : (f g : ℕ → ℕ) (n : ℕ) → ((i : ℕ) → i < n → f i ≡ g i) → sum_by f (range_with_len 0 n) ≡ sum_by g (range_with_len 0 n)
 sum_same f g zero h = refl
 sum_same f g (suc n) h =
     let s : n + 1 ≡ suc n = omega arith in
@@ -256,10 +257,6 @@ node_sound k s i n h f =
     (sound_wider k s.budget (s.ins ++ node_layouts (take i s.nodes)) (node_layouts (drop i s.nodes)) n (h.nodes i n f))
 
 -- ---- the nodes so far
-
-pub length_grown : {A B : Type 0} (step : List B → A → B) (known : List B) (xs : List A) → length (grown step known xs) ≡ length known + length xs
-length_grown step known [] = omega arith
-length_grown step known (x ∷ xs) = omega (arith, length_grown step (known ++ step known x ∷ []) xs, length-append known (step known x ∷ []))
 
 abbrev pub timings_to : (costs : List OwnCosts) (s : StFuncTree) (i : ℕ) → List NodeTiming
 timings_to costs s i = grown (next_timing costs s) [] (take i s.nodes)

@@ -12,8 +12,9 @@ use Rattle.ae_rewrite.proofs.Grown.{entry, get_last, grown-front}
 use Rattle.ae_delay.specs.declared.own.OwnCosts.{OwnCosts}
 use Rattle.ae_delay.specs.OwnCosts.{body_costs}
 use Rattle.ae_delay.specs.Costs.{NodeTiming, all_costs, func_costs, next_timing, node_costs, node_timings}
-use Rattle.ae_delay.proofs.Instances.{grown_more, grown_split, length_grown, node_sound}
+use Rattle.ae_delay.proofs.Instances.{grown_more, grown_split, node_sound}
 use Rattle.ae_delay.proofs.Items.{body_is}
+use Rattle.ae_seq.proofs.Items.{length-grown as length_grown}
 
 -- the load of an instance, by the costs of those before it
 abbrev pub load_at : List StFuncTree → (k : ℕ) → StFuncTree → ℕ

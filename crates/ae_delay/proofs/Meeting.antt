@@ -17,7 +17,7 @@ use Rattle.ae_delay.specs.Costs.{func_meets, latest, meets_of}
 use Rattle.ae_delay.specs.Weighing.{AllBelow, HaveMet, IsProgress}
 use Rattle.ae_delay.proofs.Instances.{arrivals_long, timings_to}
 
-most_same : (f g : ℕ → ℕ) (a : ℕ) (xs : List ℕ) → ((r i : ℕ) → slice_get xs r ≡ Some i → f i ≡ g i)
+pub most_same : (f g : ℕ → ℕ) (a : ℕ) (xs : List ℕ) → ((r i : ℕ) → slice_get xs r ≡ Some i → f i ≡ g i)
     → fold (λ most x. max most (f x)) a xs ≡ fold (λ most x. max most (g x)) a xs
 most_same f g a [] same = refl
 most_same f g a (x ∷ xs) same =

@@ -12,11 +12,11 @@ pub log_start : (n : ℕ) → log_up n ≡ least_power n 0 13
 unfolding log_up
 log_start n = refl
 
-power_next : (n l k : ℕ) → 2 ^ l < n → least_power n l (suc k) ≡ least_power n (l + 1) k
+pub power_next : (n l k : ℕ) → 2 ^ l < n → least_power n l (suc k) ≡ least_power n (l + 1) k
 unfolding least_power
 power_next n l k h = let t : nat_le n (2 ^ l) ≡ false = search (arith) in rw t refl
 
-power_found : (n l k : ℕ) → n ≤ 2 ^ l → least_power n l (suc k) ≡ l
+pub power_found : (n l k : ℕ) → n ≤ 2 ^ l → least_power n l (suc k) ≡ l
 unfolding least_power
 power_found n l k h = let t : nat_le n (2 ^ l) ≡ true = search (arith) in rw t refl
 

@@ -16,8 +16,8 @@ use Rattle.ae_delay.specs.Bounds.{IsBounded}
 use Rattle.ae_delay.specs.Weighing.{AreKnown, IsKnown, IsOverAt, IsTimed}
 use Rattle.ae_delay.specs.Timings.{AreTimes, Times, item_arrivals, item_meets}
 use Rattle.ae_delay.specs.Arriving.{AreFirst, AreToldFirst, HasMore, HasOneMore, HaveMoreMet}
-use Rattle.ae_delay.proofs.Instances.{length_grown}
 use Rattle.ae_delay.proofs.Light.{costs_more, load_at, used_light}
+use Rattle.ae_seq.proofs.Items.{length-grown as length_grown}
 
 -- ---- known costs, with one more
 

@@ -2,10 +2,7 @@
 use Rattle.std.proofs.Common.{ℕ, ◌≡◌, ◌&&◌, ◌==◌, ◌∙◌, Bool, true, false, refl, ap}
 use Rattle.std.proofs.lemmas.Bool.{eqb-true}
 use Rattle.ae_word.specs.AtomTree.{AtomTree, WordKind, word, pair, same_atom, same_kind, same_sign}
-
-both : (a b : Bool) → (a && b) ≡ true → (a ≡ true) × (b ≡ true)
-both true b h = (refl, h)
-both false b h = cc
+use Rattle.ae_moves.proofs.Held.{both}
 
 sign_is : (a b : Bool) → same_sign a b ≡ true → a ≡ b
 sign_is true true h = refl

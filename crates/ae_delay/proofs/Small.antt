@@ -23,6 +23,7 @@ use Rattle.ae_delay.specs.declared.moves.MoveCosts.{MoveCosts}
 use Rattle.ae_delay.specs.Bounds.{AreSmall}
 use Rattle.ae_delay.specs.Moving.{costs_of_move}
 use Rattle.ae_delay.proofs.Sourced.{numbered}
+use Rattle.ae_delay.proofs.Owned.{rings_le}
 
 -- ---- the trips of a move are within its columns and its latency
 
@@ -54,7 +55,7 @@ trips_within m trips d ins outs ed ei eo h e =
 
 -- ---- sums over columns
 
-sum_at_most : (f : ℕ → ℕ) (most a n : ℕ) → ((q : ℕ) → f q ≤ most) → sum_by f (range_with_len a n) ≤ n * most
+pub sum_at_most : (f : ℕ → ℕ) (most a n : ℕ) → ((q : ℕ) → f q ≤ most) → sum_by f (range_with_len a n) ≤ n * most
 sum_at_most f most a zero h = omega arith
 sum_at_most f most a (suc n) h = omega (arith, sum_by-cons f a (range_with_len (a + 1) n), sum_at_most f most (a + 1) n h, h a)
 
@@ -65,7 +66,7 @@ sum_below f g a (suc n) h =
 
 -- ---- the words that are kept
 
-age_small : (d q c : ℕ) (s : SourceTree) → d ≤ 4096 → c < 4096 → age_from d q c s ≤ 8191
+pub age_small : (d q c : ℕ) (s : SourceTree) → d ≤ 4096 → c < 4096 → age_from d q c s ≤ 8191
 age_small d q c (place k p) h l = aged (nat_eq p q) (c + d - k) (omega arith)
   where
     aged : (b : Bool) (age : ℕ) → age ≤ 8191 → cond b age 0 ≤ 8191
@@ -73,7 +74,7 @@ age_small d q c (place k p) h l = aged (nat_eq p q) (c + d - k) (omega arith)
     aged false age h = omega arith
 age_small d q c (constant w) h l = omega arith
 
-changes_few : (same : ChoiceTree → ChoiceTree → Bool) (x : ChoiceTree) (ys : List ChoiceTree) → changes_after same x ys ≤ length ys
+pub changes_few : (same : ChoiceTree → ChoiceTree → Bool) (x : ChoiceTree) (ys : List ChoiceTree) → changes_after same x ys ≤ length ys
 changes_few same x [] = omega arith
 changes_few same x (y ∷ ys) = let r = changes_few same y ys in one_more (same x y) (changes_after same y ys) (length ys) r
   where
@@ -81,26 +82,26 @@ changes_few same x (y ∷ ys) = let r = changes_few same y ys in one_more (same 
     one_more true n m h = omega arith
     one_more false n m h = omega arith
 
-stretches_few : (xs : List ChoiceTree) → stretches same_choice xs ≤ length xs
+pub stretches_few : (xs : List ChoiceTree) → stretches same_choice xs ≤ length xs
 stretches_few [] = omega arith
 stretches_few (x ∷ xs) = omega (arith, changes_few same_choice x xs)
 
-filter_few : {X : Type 0} (p : X → Bool) (xs : List X) → length (filter p xs) ≤ length xs
+pub filter_few : {X : Type 0} (p : X → Bool) (xs : List X) → length (filter p xs) ≤ length xs
 filter_few p xs = rw length-filter (count_by-le-length p xs)
 
-clock_small : (m : Move) → IsMove m → (n : ℕ) (t : TripTree) → slice_get (move_trips m) n ≡ Some t → t.clock < 4096
+pub clock_small : (m : Move) → IsMove m → (n : ℕ) (t : TripTree) → slice_get (move_trips m) n ≡ Some t → t.clock < 4096
 clock_small m h n t f =
     let x = numbered (trip_number m.ins m.out m.origins) (st_atoms m.out * element_words m.out) n t f in
     let en : n / element_words m.out < st_atoms m.out = div_below n (element_words m.out) (st_atoms m.out) (words_pos m.out) x.0 in
     let below : (trip_number m.ins m.out m.origins n).clock < time m.out = (slot_below m.out h.out.lengths (n / element_words m.out) en).0 in
     rw (← x.1) (omega (arith, h.out.in_time, below))
 
-column_small : (m : Move) (q : ℕ) → IsMove m → column_delay (move_latency m) q (move_trips m) ≤ 8191
+pub column_small : (m : Move) (q : ℕ) → IsMove m → column_delay (move_latency m) q (move_trips m) ≤ 8191
 column_small m q h =
     lead_le (λ (t : TripTree). age_from (move_latency m) q t.clock t.source) 0 8191 (move_trips m) (omega arith)
     (λ t n f. age_small (move_latency m) q t.clock t.source (latency_small m h) (clock_small m h n t f))
 
-runs_few : (m : Move) (q : ℕ) → IsMove m → column_runs (move_latency m) q (move_trips m) ≤ 16384
+pub runs_few : (m : Move) (q : ℕ) → IsMove m → column_runs (move_latency m) q (move_trips m) ≤ 16384
 runs_few m q h =
     let all : ℕ = st_atoms m.out * element_words m.out in
     let long : length (move_trips m) ≡ all = length-map-range_with_len (trip_number m.ins m.out m.origins) 0 all in
@@ -117,13 +118,7 @@ runs_few m q h =
 
 -- ---- memories
 
-rings_le : (a : ℕ) → rings a ≤ a
-rings_le a = elim (cases_lt a 8) [
-  | inl l ↦ (let t : nat_lt a 8 ≡ true = search (arith) in rw t (omega arith))
-  | inr g ↦ (let t : nat_lt a 8 ≡ false = search (arith) in rw t (omega arith))
-]
-
-mems_le : (b : Bool) (age : ℕ) → cond b 0 (rings age) ≤ age
+pub mems_le : (b : Bool) (age : ℕ) → cond b 0 (rings age) ≤ age
 mems_le true age = omega arith
 mems_le false age = rings_le age
 

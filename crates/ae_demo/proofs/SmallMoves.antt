@@ -12,16 +12,13 @@ use Rattle.ae_moves.specs.Origins.{IsMove, Move, move_latency, move_trips}
 use Rattle.ae_moves.proofs.Words.{lead_le, origin_at, source_lead, words_pos}
 use Rattle.ae_delay.specs.Moving.{costs_of_move}
 use Rattle.ae_delay.proofs.Sourced.{numbered}
+use Rattle.ae_delay.proofs.Small.{sum_at_most as most_each, stretches_few as runs_in, filter_few as filtered}
 
 -- no later than its clocks, with ages of at most twice as many, and no more runs in a column than words
 pub record IsLight (clocks words : ℕ) (m : Move) : Type 0 where
   pub latency : (costs_of_move m).latency ≤ clocks
   pub delay : (costs_of_move m).delay ≤ sum_by columns_of m.ins * (2 * clocks)
   pub runs : (costs_of_move m).runs ≤ columns_of m.out * words
-
-most_each : (f : ℕ → ℕ) (most a n : ℕ) → ((q : ℕ) → f q ≤ most) → sum_by f (range_with_len a n) ≤ n * most
-most_each f most a zero h = omega arith
-most_each f most a (suc n) h = omega (arith, sum_by-cons f a (range_with_len (a + 1) n), most_each f most (a + 1) n h, h a)
 
 -- ---- when words are taken
 
@@ -60,13 +57,6 @@ changes x (y ∷ ys) = one_more (same_choice x y) (changes_after same_choice y y
     one_more : (b : Bool) (n m : ℕ) → n ≤ m → n + cond b 0 1 ≤ suc m
     one_more true n m h = omega arith
     one_more false n m h = omega arith
-
-runs_in : (xs : List ChoiceTree) → stretches same_choice xs ≤ length xs
-runs_in [] = omega arith
-runs_in (x ∷ xs) = omega (arith, changes x xs)
-
-filtered : {X : Type 0} (p : X → Bool) (xs : List X) → length (filter p xs) ≤ length xs
-filtered p xs = rw length-filter (count_by-le-length p xs)
 
 runs : (m : Move) (q : ℕ) → column_runs (move_latency m) q (move_trips m) ≤ st_atoms m.out * element_words m.out
 runs m q =

@@ -29,11 +29,7 @@ use Rattle.ae_order.proofs.DriveLaws.{value_driven, value_equation}
 use Rattle.ae_order.proofs.SoundOf.{named_of, place_is}
 use Rattle.ae_gates.proofs.Words.{word_grows}
 use Rattle.ae_express.proofs.NetLaws.{nets_grow}
-
-pub some_at : {X : Type 0} (xs : List X) (p : ℕ) → p < length xs → (x : X) × (slice_get xs p ≡ Some x)
-some_at [] p l = absurd (omega arith)
-some_at (x ∷ xs) zero l = (x, refl)
-some_at (x ∷ xs) (suc p) l = some_at xs p (omega arith)
+use Rattle.ae_judge.proofs.PlaceLemmas.{get_within as some_at}
 
 -- an expression is ready where each of its names is
 pub ready_for : (ns : List NetTree) (nets : List (Option NetId)) (e : ExprTree) → ((n : List ℕ) → Among n (names_in e) → IsReady ns nets n)

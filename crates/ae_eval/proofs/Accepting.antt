@@ -6,7 +6,7 @@ use Rattle.ae_seq.specs.ProgramTree.{FuncTree, NodeTree, ProgramTree}
 use Rattle.ae_seq.specs.Typing.{Judged, Signature, Verdict, all_in_size, fine, untyped, too_large, grown, item_types, judged, judged_func, judged_nodes, node_type, param_types, refused, refused_or, signature, signatures, size_verdict, verdict}
 use Rattle.ae_eval.specs.Stack.{IsTyped, somes, types_for, types_in}
 
-both-none : (j : Judged) (v : Verdict) (o : Option Judged) → refused_or j v o ≡ None → (v ≡ fine) × (o ≡ None)
+pub both-none : (j : Judged) (v : Verdict) (o : Option Judged) → refused_or j v o ≡ None → (v ≡ fine) × (o ≡ None)
 both-none j fine o h = (refl, h)
 both-none j untyped o h = cc
 both-none j too_large o h = cc

@@ -9,23 +9,13 @@ use Rattle.ae_word.proofs.Sizes.{length-atom_kinds}
 use Rattle.ae_seqtype.specs.SeqTree.{SeqTree, atom, seq, words, kinds, repeated, atoms, atom_of}
 use Rattle.ae_seqtype.specs.ValueTree.{FitKinds}
 use Rattle.ae_seqtype.proofs.Sizes.{length-kinds, one-atom_words}
-use Rattle.ae_seqtype.proofs.Stands.{length-Fit, repeated-one}
+use Rattle.ae_seqtype.proofs.Stands.{length-Fit, repeated-one, repeated-add, repeated-mul}
 use Rattle.ae_seq.specs.Meaning.{coded}
 use Rattle.ae_eval.specs.Stack.{FitAt, window, combined}
 use Rattle.ae_eval.proofs.Zips.{words-atoms}
 use Rattle.ae_eval.proofs.Folding.{length-combined}
 
-repeated-add : {A : Type 0} (n m : ℕ) (xs : List A) → repeated (n + m) xs ≡ repeated n xs ++ repeated m xs
-repeated-add zero m xs = rw (zero-add m) refl
-repeated-add (suc n) m xs = rw (suc-add n m, append_assoc) (ap (λ ys. xs ++ ys) (repeated-add n m xs))
-
-repeated-mul : {A : Type 0} (n m : ℕ) (xs : List A) → repeated (n * m) xs ≡ repeated n (repeated m xs)
-repeated-mul zero m xs = rw (zero-mul m) refl
-repeated-mul (suc n) m xs =
-    let sum : suc n * m ≡ m + n * m = omega arith in
-    rw (sum, repeated-add m (n * m) xs, repeated-mul n m xs) refl
-
-kinds-repeated : (t : SeqTree) → kinds t ≡ repeated (atoms t) (atom_kinds (atom_of t))
+pub kinds-repeated : (t : SeqTree) → kinds t ≡ repeated (atoms t) (atom_kinds (atom_of t))
 kinds-repeated (atom a) = sym (repeated-one (atom_kinds a))
 kinds-repeated (seq n t) = ap (λ (ks : List WordKind). repeated n ks) (kinds-repeated t) ∙ sym (repeated-mul n (atoms t) (atom_kinds (atom_of t)))
 
@@ -39,7 +29,7 @@ get-right [] ys j h = let e : j ≡ j - 0 = omega arith in ap (slice_get ys) e
 get-right (x ∷ xs) ys zero h = absurd (omega arith)
 get-right (x ∷ xs) ys (suc j) h = let e : j - length xs ≡ suc j - length (x ∷ xs) = omega arith in get-right xs ys j (omega arith) ∙ ap (slice_get ys) e
 
-repeated-at : {A : Type 0} (n : ℕ) (xs : List A) (j : ℕ) → j < n * length xs → slice_get (repeated n xs) j ≡ slice_get xs (j % length xs)
+pub repeated-at : {A : Type 0} (n : ℕ) (xs : List A) (j : ℕ) → j < n * length xs → slice_get (repeated n xs) j ≡ slice_get xs (j % length xs)
 repeated-at zero xs j h = absurd (omega arith)
 repeated-at (suc n) xs j h = ⊎_elim
     (λ (lt : j < length xs). get-left xs (repeated n xs) j lt ∙ ap (slice_get xs) (sym (mod-eq_of_lt lt)))

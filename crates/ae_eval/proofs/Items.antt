@@ -14,7 +14,7 @@ use Rattle.ae_seq.specs.Formed.{all_distinct, formed, formed_func, formed_funcs,
 use Rattle.ae_seq.specs.Typing.{Signature, called, grown, item_types, node_type, op_type, param_types, same_types, signature, signatures, types_at, where_ok, ◌>>=◌}
 use Rattle.ae_seq.specs.Meaning.{meanings, meaning}
 use Rattle.ae_seq.proofs.Judging.{signature-known}
-use Rattle.ae_seq.proofs.Types.{item-sized, slice_get-view}
+use Rattle.ae_seq.proofs.Types.{item-sized, slice_get-view, some-item as some-type, front}
 use Rattle.ae_eval.specs.Stack.{IsTyped, first_type, params_for, params_in, result_of, types_in}
 use Rattle.ae_eval.specs.Lines.{ItemsHave, item_of, nodes_for, nodes_in, results_for, results_in}
 use Rattle.ae_eval.proofs.Wording.{same-kind}
@@ -288,10 +288,6 @@ few-items p k f h e =
 
 -- ---- typed lines
 
-some-type : (o : Option SeqTree) (t : SeqTree) → option_map (λ (x : SeqTree). Some x) o ≡ Some (Some t) → o ≡ Some t
-some-type None t h = cc
-some-type (Some u) t h = cc
-
 -- the first argument and the others
 record Front (o : Option (Option SeqTree)) (r : Option (List SeqTree)) (us : List SeqTree) : Type 0 where
   first : SeqTree
@@ -299,13 +295,6 @@ record Front (o : Option (Option SeqTree)) (r : Option (List SeqTree)) (us : Lis
   first_is : o ≡ Some (Some first)
   rest_is : r ≡ Some rest
   whole : first ∷ rest ≡ us
-
-front : (o : Option (Option SeqTree)) (r : Option (List SeqTree)) (us : List SeqTree) → (o >>= λ p. p >>= λ t. r >>= λ vs. Some (t ∷ vs)) ≡ Some us
-    → Front o r us
-front (Some (Some t)) (Some vs) us h = record { first = t; rest = vs; first_is = refl; rest_is = refl; whole = cc }
-front (Some (Some t)) None us h = cc
-front (Some None) r us h = cc
-front None r us h = cc
 
 types-there : (ts : List SeqTree) (is : List ℕ) (us : List SeqTree) → types_at (map (λ (t : SeqTree). Some t) ts) is ≡ Some us → ItemsHave ts is us
 types-there ts [] us h = let e : [] ≡ us = cc in rw (← e) tt

@@ -10,7 +10,7 @@ use Rattle.ae_seqtype.specs.SeqTree.{SeqTree, atom, seq, words, kinds, repeated}
 use Rattle.ae_seqtype.specs.ValueTree.{ValueTree, both, more, listed, elements, zeroed, value_of, cut, Fit, Stands}
 use Rattle.ae_seqtype.proofs.Cuts.{length-cut}
 use Rattle.ae_seqtype.proofs.Values.{elements-listed}
-use Rattle.ae_seqtype.proofs.Stands.{length-Fit, FitKinds-append, FitKinds-split, elements-value_of, Stands-append, Stands-take, Stands-drop, Stands-zeroed, Stands-cut, Stands-repeated, repeated-one, zeros, zeros-replicate, stands}
+use Rattle.ae_seqtype.proofs.Stands.{length-Fit, FitKinds-append, FitKinds-split, elements-value_of, Stands-append, Stands-take, Stands-drop, Stands-zeroed, Stands-cut, Stands-repeated, repeated-one, zeros, zeros-replicate, stands, zeroed-listed}
 use Rattle.ae_seq.specs.Typing.{fst_type, pair_type, partition_type, select_type, shift_type, snd_type, unpartition_type, up_type, where_ok}
 use Rattle.ae_seq.specs.Meaning.{first_part, joined, second_part, shifted}
 use Rattle.ae_eval.specs.Stack.{FitAt, Pushed, StandsFor, window}
@@ -25,10 +25,6 @@ where_ok-some false o x h = cc
 pub where_ok-there : {A : Type 0} (b : Bool) (o : Option A) → IsSome (where_ok b o) → b ≡ true
 where_ok-there true o h = refl
 where_ok-there false o h = cc
-
-zeroed-listed : (xs : List ValueTree) → zeroed (listed xs) ≡ listed (map zeroed xs)
-zeroed-listed [] = refl
-zeroed-listed (x ∷ xs) = ap (λ v. more (zeroed x) v) (zeroed-listed xs)
 
 shift_core : (c m : ℕ) (t : SeqTree) (ws : List ℕ) → Fit (seq (c + m) t) ws
     → Stands (seq (c + m) t) (replicate (c * words t) 0 ++ take (length ws - c * words t) ws) (listed (shifted c (elements (value_of (seq (c + m) t) ws))))

@@ -11,6 +11,7 @@ use Rattle.ae_seq.specs.Formed.{func_lines, item_count}
 use Rattle.ae_seq.specs.Typing.{grown, node_type, param_types, signatures}
 use Rattle.ae_eval.specs.Stack.{IsTyped, starts_from, starts_of, types_in, words_of}
 use Rattle.ae_eval.proofs.Accepting.{func-types}
+use Rattle.ae_seq.proofs.Items.{length-grown}
 
 -- item i begins after the words of the items before it
 pub start-at : (a : ℕ) (ts : List SeqTree) (i : ℕ) → i ≤ length ts → slice_get (starts_from a ts) i ≡ Some (a + words_of (take i ts))
@@ -33,10 +34,6 @@ words_of-more (s ∷ ts) (suc i) t h =
     let sum : suc i + 1 ≡ suc (i + 1) = omega arith in
     let r = words_of-more ts i t h in
     rw sum (omega (arith, r))
-
-length-grown : {A B : Type 0} (step : List B → A → B) (known : List B) (xs : List A) → length (grown step known xs) ≡ length known + length xs
-length-grown step known [] = omega arith
-length-grown step known (x ∷ xs) = omega (arith, length-grown step (known ++ step known x ∷ []) xs, length-append known (step known x ∷ []))
 
 pub count-items : (p : ProgramTree) (k : ℕ) (f : FuncTree) → IsTyped p → slice_get p.funcs k ≡ Some f → length (types_in p k) ≡ item_count f
 count-items p k f h e =

@@ -192,7 +192,7 @@ same-kind k l h =
     let a : k ≡ record { signed = l.signed; width = k.width } = ap (λ (b : Bool). let x : WordKind = record { signed = b; width = k.width } in x) s in
     a ∙ ap (λ (v : ℕ). let x : WordKind = record { signed = l.signed; width = v } in x) w
 
-there : {A : Type 0} (o : Option A) → IsSome o → (u : A) × (o ≡ Some u)
+pub there : {A : Type 0} (o : Option A) → IsSome o → (u : A) × (o ≡ Some u)
 there None h = cc
 there (Some u) h = (u, refl)
 
@@ -238,7 +238,7 @@ two-of (atom (word k)) (seq n t) u h = cc
 two-of (atom (pair a b)) z u h = cc
 two-of (seq n t) z u h = cc
 
-as-of : (a : AtomTree) (o : Option SeqTree) (u : SeqTree) → as_word a o ≡ Some u → (t : SeqTree) × (o ≡ Some t) × (u ≡ atom a)
+pub as-of : (a : AtomTree) (o : Option SeqTree) (u : SeqTree) → as_word a o ≡ Some u → (t : SeqTree) × (o ≡ Some t) × (u ≡ atom a)
 as-of a None u h = cc
 as-of a (Some t) u h = (t, refl, cc)
 
@@ -675,7 +675,7 @@ combined-fits op (k ∷ ks) (x ∷ us) [] f h g = absurd g
 combined-fits op (k ∷ ks) (x ∷ us) (y ∷ vs) f h g = (fold-fits op k.signed k.width x y f h.0 g.0, combined-fits op ks us vs f h.1 g.1)
 
 -- a cast to a type in size names a width in range
-sized-word : (k : WordKind) → IsTrue (in_size (atom (word k))) → (1 ≤ k.width) × (k.width ≤ 64)
+pub sized-word : (k : WordKind) → IsTrue (in_size (atom (word k))) → (1 ≤ k.width) × (k.width ≤ 64)
 sized-word k h =
     let low : 1 ≤ k.width = grind (arith, nat_tests) in
     let high : k.width ≤ 64 = grind (arith, nat_tests) in

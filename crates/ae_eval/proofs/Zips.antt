@@ -12,6 +12,7 @@ use Rattle.ae_seq.specs.Meaning.{zipped, map_two}
 use Rattle.ae_eval.specs.Stack.{FitAt, Pushed, window, paired}
 use Rattle.ae_eval.proofs.Windows.{pushed-on}
 use Rattle.ae_eval.proofs.Moving.{where_ok-some, join_fit}
+use Rattle.ae_eval.proofs.Wording.{there}
 
 -- the atoms of a type have its words
 pub words-atoms : (t : SeqTree) → words t ≡ atoms t * atom_words (atom_of t)
@@ -138,10 +139,6 @@ zip-zipped : (s z v : SeqTree) → zip_type s z ≡ Some v → zipped_type s z �
 zip-zipped (atom a) z v h = cc
 zip-zipped (seq n t) (atom b) v h = cc
 zip-zipped (seq n t) (seq m u) v h = h
-
-there : {A : Type 0} (o : Option A) → IsSome o → (u : A) × (o ≡ Some u)
-there None h = cc
-there (Some u) h = (u, refl)
 
 pub zip-words : (s z : SeqTree) (q l : ℕ) → q ≡ atoms s → l ≡ atom_words (atom_of z) → IsSome (zip_type s z) → q * l ≡ words z
 zip-words s z q l eq el h =

@@ -8,7 +8,7 @@ use Rattle.std.proofs.lemmas.Int.Digits.{digits_value_more}
 use Rattle.std.specs.Char.{digit_value, is_ascii_digit}
 use Rattle.std.specs.Str.{all_ascii_digits}
 use Rattle.std.specs.Str.Parse.{digits_value}
-use Rattle.ae_fields.proofs.Bools.{and-first, and-second}
+use Rattle.ae_seq.proofs.Judging.{left as and-first, right as and-second}
 
 -- a digit's value
 pub digit-is : (c : ℕ) → is_ascii_digit c ≡ true → digit_value c + 48 ≡ c

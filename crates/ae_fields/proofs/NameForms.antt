@@ -6,9 +6,9 @@ use Rattle.std.proofs.lemmas.Bool.{lt-ltb, eqb-true, eq-eqb}
 use Rattle.std.specs.Str.{bytes_eq}
 use Rattle.ae_seq.specs.Formed.{same_bytes, is_among, all_distinct, all_names, is_name, apart}
 use Rattle.ae_fields.specs.Scopes.{place, is_known}
-use Rattle.ae_fields.proofs.Bools.{and-first, and-second}
-use Rattle.ae_fields.proofs.PlainLemmas.{and-both}
 use Rattle.ae_fields.proofs.PlainOf.{bytes-same}
+use Rattle.ae_seq.proofs.Judging.{left as and-first, right as and-second}
+use Rattle.ae_fields.proofs.PartLemmas.{and-both}
 
 pub same-agree : (xs ys : List ℕ) → bytes_eq xs ys ≡ same_bytes xs ys
 same-agree [] [] = refl
@@ -102,7 +102,7 @@ among-at n [] k h l = absurd (omega arith)
 among-at n (m ∷ ns) zero h l = (or-false (same_bytes n m) _ h).0
 among-at n (m ∷ ns) (suc k) h l = among-at n ns k ((or-false (same_bytes n m) _ h).1) (omega arith)
 
-not-so : (b : Bool) → not b ≡ true → b ≡ false
+pub not-so : (b : Bool) → not b ≡ true → b ≡ false
 not-so true h = absurd cc
 not-so false h = refl
 

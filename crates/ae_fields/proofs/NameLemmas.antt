@@ -3,9 +3,9 @@ use Rattle.std.proofs.Common.{◌≡◌, ℕ, zero, suc, ◌<◌, Bool, true, fa
 use Rattle.std.proofs.lemmas.Bool.{leb-true, eqb-true}
 use Rattle.std.specs.Str.{IsAscii}
 use Rattle.ae_seq.specs.Formed.{all_name_bytes, begins_with_letter, is_name, is_name_byte, is_letter, same_bytes, within}
-use Rattle.ae_fields.proofs.Bools.{and-first, and-second}
+use Rattle.ae_seq.proofs.Judging.{left as and-first, right as and-second}
 
-or-elim : {P : Type 0} (a b : Bool) → (a || b) ≡ true → (a ≡ true → P) → (b ≡ true → P) → P
+pub or-elim : {P : Type 0} (a b : Bool) → (a || b) ≡ true → (a ≡ true → P) → (b ≡ true → P) → P
 or-elim true b h f g = f refl
 or-elim false b h f g = g h
 

@@ -6,9 +6,9 @@ use Rattle.std.proofs.lemmas.Bool.{eqb-true, eq-eqb}
 use Rattle.std.specs.List.{list_all}
 use Rattle.ae_fields.specs.Cut.{free, lines, put, fields, said, IsFirstLine}
 use Rattle.ae_fields.specs.Parts.{is_mark, no_mark, whole_lines, IsSplit}
-use Rattle.ae_fields.proofs.Bools.{and-first, and-second}
+use Rattle.ae_seq.proofs.Judging.{left as and-first, right as and-second}
 
-and-both : (x y : Bool) → x ≡ true → y ≡ true → (x && y) ≡ true
+pub and-both : (x y : Bool) → x ≡ true → y ≡ true → (x && y) ≡ true
 and-both true y hx hy = hy
 and-both false y hx hy = absurd cc
 
@@ -24,7 +24,7 @@ free-more mark xs k h f e = ap (free mark) (take_more xs k 0 h) ∙ free-push ma
 pub at-lf : (text : List ℕ) (k : ℕ) → k < length text → get_or text k 0 ≡ 10 → text ≡ take k text ++ 10 ∷ drop (k + 1) text
 at-lf text k h lf = sym (take-append-drop k text) ∙ ap (λ d. take k text ++ d) (drop_more text k 0 h ∙ ap (λ b. b ∷ drop (k + 1) text) lf)
 
-some-line : (b : ℕ) (bs : List ℕ) → 1 ≤ length (lines (b ∷ bs))
+pub some-line : (b : ℕ) (bs : List ℕ) → 1 ≤ length (lines (b ∷ bs))
 some-line b bs = by (nat_eq b 10)
   where
     put-some : (ps : List (List ℕ)) → 1 ≤ length (put b ps)

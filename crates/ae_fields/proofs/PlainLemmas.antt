@@ -7,15 +7,12 @@ use Rattle.std.specs.Fmt.{decimal}
 use Rattle.std.specs.Str.{all_ascii_digits}
 use Rattle.std.specs.Str.Parse.{digits_value}
 use Rattle.ae_fields.specs.Number.{is_numeral, numeral_value}
-use Rattle.ae_fields.proofs.Bools.{and-first, and-second}
 use Rattle.ae_fields.proofs.Digits.{bounded, bounded-small}
+use Rattle.ae_fields.proofs.PartLemmas.{and-both}
+use Rattle.ae_seq.proofs.Judging.{left as and-first, right as and-second}
 
 pub own : IsNumeralModel (λ ds. all_ascii_digits ds ≡ true) (digits_value 10)
 own = numerals_by_value _ tells_all_ascii_digits
-
-pub and-both : (x y : Bool) → x ≡ true → y ≡ true → (x && y) ≡ true
-and-both true y hx hy = hy
-and-both false y hx hy = absurd cc
 
 -- no number is written with a zero before other digits
 pub zero-led : (ds : List ℕ) → 1 < length ds → get_or ds 0 0 ≡ 48 → (n : ℕ) → n < 2 ^ 64 → ds ≡ decimal n → ⊥

@@ -8,8 +8,9 @@ use Rattle.ae_fields.specs.Grammar.{Known, Part, State, Head, params_of, begin, 
 use Rattle.ae_seq.specs.Formed.{is_name}
 use Rattle.ae_fields.specs.Scopes.{is_known}
 use Rattle.ae_fields.specs.Words.{operator_from}
-use Rattle.ae_fields.proofs.Bools.{and-second}
 use Rattle.ae_fields.proofs.OptionLemmas.{bind-some, where-some, some-is}
+use Rattle.ae_fields.proofs.NameForms.{not-so as not-true}
+use Rattle.ae_seq.proofs.Judging.{right as and-second}
 
 abbrev pub begun_state : ℕ → Known → List ℕ → Head → State
 begun_state n k name h = record {
@@ -40,10 +41,6 @@ pub data Placed (n : ℕ) (k : Known) (part : Option Part) (s : State) : Type 0 
       → s ≡ node_state n k p name o.0 args → Placed n k part s
   finished : (p : Part) (fs : List (List ℕ)) (rs : List ℕ) → part ≡ Some p → places_after p.items [] fs ≡ Some rs
       → within 1 (most_results k.version []) (length rs) ≡ true → s ≡ ended n k p rs → Placed n k part s
-
-not-true : (b : Bool) → not b ≡ true → b ≡ false
-not-true true h = absurd cc
-not-true false h = refl
 
 begin-placed : (n : ℕ) (k : Known) (f : List ℕ) (fs : List (List ℕ)) (s : State) → begin n k f fs ≡ Some s → Placed n k None s
 begin-placed n k f [] s e = absurd cc

@@ -12,7 +12,8 @@ use Rattle.ae_flow.specs.Flow.{Callee, callee_at, element_count, first_result, l
 use Rattle.ae_flow.specs.Fitted.{FitsBody, elements_stream}
 use Rattle.ae_ports.specs.Ports.{streams_of}
 use Rattle.ae_flow.proofs.Widths.{FitWidths, all_fit, element_fit, fit_of, repeated_mul}
-use Rattle.ae_flow.proofs.Operands.{widths_of, length-widths_of, words_from}
+use Rattle.ae_flow.proofs.Operands.{widths_of, words_from}
+use Rattle.ae_gather.proofs.GatherLaw.{length_widths as length-widths_of}
 
 -- what callers of an instance know: words that fit its parameters give words that fit its first result
 pub record GivesWords (f : StFuncTree) (c : Callee) : Type 0 where

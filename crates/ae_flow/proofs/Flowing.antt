@@ -90,7 +90,7 @@ length_items step (n ∷ ns) items = omega (arith, length_items step ns (items +
 
 -- ---- the parameters
 
-many_words : (ss : List StTree) (vs : List (List ℕ)) → AllAreWords (streams_of ss) vs → length vs ≡ length ss
+pub many_words : (ss : List StTree) (vs : List (List ℕ)) → AllAreWords (streams_of ss) vs → length vs ≡ length ss
 many_words [] [] h = refl
 many_words [] (v ∷ vs) h = absurd h
 many_words (s ∷ ss) [] h = absurd h
@@ -111,7 +111,7 @@ items_many s known vs fit =
     length_items (node_words known (item_layouts s)) s.nodes vs
     ∙ omega (arith, many_words s.ins vs fit, length-append s.ins (node_layouts s.nodes), length-map s.nodes (λ (x : StNodeTree). x.type))
 
-node_layout : (s : StFuncTree) (j : ℕ) (n : StNodeTree) → slice_get s.nodes j ≡ Some n → item_layout (item_layouts s) (length s.ins + j) ≡ n.type
+pub node_layout : (s : StFuncTree) (j : ℕ) (n : StNodeTree) → slice_get s.nodes j ≡ Some n → item_layout (item_layouts s) (length s.ins + j) ≡ n.type
 node_layout s j n at = get_or_from_slice_get (item_layouts s) (length s.ins + j) n.type (sseq 0 (st_atom (unsigned_word 1)))
     (get_right s.ins (node_layouts s.nodes) j ∙ (slice_get-map (λ (x : StNodeTree). x.type) s.nodes j ∙ ap (option_map (λ (x : StNodeTree). x.type)) at))
 

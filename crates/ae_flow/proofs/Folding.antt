@@ -23,7 +23,9 @@ use Rattle.ae_rewrite.specs.StProgramTree.{fold, scan}
 use Rattle.ae_flow.specs.Flow.{Callee, layout_words, op_words, scan_words, words_at}
 use Rattle.ae_flow.specs.Fitted.{FitsFold, FitsScan, IsOneOf, IsArranged, elements_stream}
 use Rattle.ae_flow.proofs.Widths.{repeated_at}
-use Rattle.ae_flow.proofs.Operands.{widths_of, length-widths_of, first_words, table_fits}
+use Rattle.ae_flow.proofs.Operands.{widths_of, first_words, table_fits}
+use Rattle.ae_fold.proofs.Planning.{product_some as some_product}
+use Rattle.ae_gather.proofs.GatherLaw.{length_widths as length-widths_of}
 
 -- what word q is folded by has its width
 width_at : (op : WordOp) (s : StTree) (q w : ℕ) → q < st_atoms s * element_words s → slice_get (widths_of s) (q % length (widths_of s)) ≡ Some w
@@ -60,9 +62,6 @@ element_sized t raw (inr is) h = part_of_tseq raw t 1 is.0 is.1 h
 element_like : (t raw : StTree) → IsOneOf t raw → (element_atom t ≡ element_atom raw) × (st_atoms t ≡ st_atoms raw)
 element_like t raw (inl is) = (rw is refl, rw is (omega arith))
 element_like t raw (inr is) = (rw is.1 refl, rw is.1 (omega arith))
-
-some_product : (a b : ℕ) → 1 ≤ a → 1 ≤ b → 1 ≤ a * b
-some_product a b h g = grind arith
 
 pub fold_words_fit : (known : List Callee) (budget : ℕ) (op : WordOp) (n m : ℕ) (raw a s : StTree) (vs : List (List ℕ)) → IsRawFor budget raw s → IsSpread n m
     → FitsFold budget op n m raw a s → AllAreWords (stream_of a ∷ []) vs

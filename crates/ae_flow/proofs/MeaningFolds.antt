@@ -23,14 +23,7 @@ use Rattle.ae_eval.proofs.Folding.{combined-stands, length-combined, fold_all-pu
 use Rattle.ae_eval.proofs.Pieces.{element-stands, count-elements}
 use Rattle.ae_eval.proofs.Wording.{combined-fits}
 use Rattle.ae_flow.proofs.MeaningTables.{table, length-table, get-table, table-by, stands-table, folds-table}
-
-fold-first : (op : WordOp) (w : ℕ) (f : ℕ → ℕ) → fold_to op w f 0 ≡ f 0
-unfolding fold_to
-fold-first op w f = refl
-
-fold-next : (op : WordOp) (w : ℕ) (f : ℕ → ℕ) (n : ℕ) → fold_to op w f (suc n) ≡ combine op w (fold_to op w f n) (f (suc n))
-unfolding fold_to
-fold-next op w f n = refl
+use Rattle.ae_fold.proofs.Associative.{fold_zero as fold-first, fold_suc as fold-next}
 
 -- an operator that folds has no third operand
 no-third : (op : WordOp) (s : Bool) (w a b c d : ℕ) → IsTrue (folds op) → word_result (op_for s op) w a b c ≡ word_result (op_for s op) w a b d

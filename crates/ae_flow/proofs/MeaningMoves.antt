@@ -19,6 +19,7 @@ use Rattle.ae_seq.specs.Typing.{shift_type, up_type, select_type, partition_type
 use Rattle.ae_seq.specs.Meaning.{joined, shifted}
 use Rattle.ae_eval.specs.Stack.{FitAt, Pushed, window}
 use Rattle.ae_eval.proofs.Moving.{shift-pushed, up-pushed, select-pushed, partition-pushed, unpartition-pushed}
+use Rattle.ae_ports.proofs.Columns.{map_map as map-map}
 
 -- ---- words alone on a stack
 
@@ -43,10 +44,6 @@ same-value : (s t : SeqTree) (ws r : List ℕ) (F : ValueTree → ValueTree) →
 same-value s t ws r F h st = subst (λ us. Stands t r (F (value_of s us))) (alone-window s ws h) st
 
 -- ---- words by their origins
-
-map-map : {A B C : Type 0} (f : B → C) (g : A → B) (xs : List A) → map f (map g xs) ≡ map (λ x. f (g x)) xs
-map-map f g [] = refl
-map-map f g (x ∷ xs) = ap (λ ys. f (g x) ∷ ys) (map-map f g xs)
 
 -- the words of a move
 abbrev pub moved_words : MoveOp → (a s : StTree) → List ℕ → List ℕ

@@ -37,7 +37,7 @@ use Rattle.ae_flow.proofs.MeaningNodes.{Adds, Standing, LaidItems, SizedItems, A
 
 -- ---- the layouts of an instance's items
 
-whole-sized : (t : SeqTree) → IsTrue (in_size t) → IsTrue (parts_in_size t)
+pub whole-sized : (t : SeqTree) → IsTrue (in_size t) → IsTrue (parts_in_size t)
 whole-sized t h = grind (arith, nat_tests)
 
 -- the layout of a parameter
@@ -255,7 +255,7 @@ module _ (p : ProgramTree) (slowdown : ℕ) (instances : List StFuncTree) (typed
 
 -- ---- the whole
 
-flat-stands : (t : SeqTree) (ws : List ℕ) (v : ValueTree) → Stands t ws v → flat v ≡ ws
+pub flat-stands : (t : SeqTree) (ws : List ℕ) (v : ValueTree) → Stands t ws v → flat v ≡ ws
 flat-stands t ws v h = ap flat (sym h.value) ∙ flat-value_of t ws (length-Fit t ws h.fits)
 
 -- values and their words

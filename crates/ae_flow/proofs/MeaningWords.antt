@@ -16,7 +16,7 @@ use Rattle.ae_seq.specs.Typing.{word_type, one_word, as_word, pair_type, fst_typ
 use Rattle.ae_seq.specs.Meaning.{coded, word_value, cast_value, result_kind, first_part, second_part, zipped}
 use Rattle.ae_eval.specs.Stack.{FitAt, paired, window}
 use Rattle.ae_eval.proofs.Moving.{where_ok-some, join_fit}
-use Rattle.ae_eval.proofs.Wording.{Choice, one-line, two-line, choice-line, word_fits}
+use Rattle.ae_eval.proofs.Wording.{Choice, one-line, two-line, choice-line, word_fits, as-of as as-there}
 use Rattle.ae_eval.proofs.Zips.{words-atoms, zip-pushed}
 use Rattle.ae_rewrite.specs.Sound.{item_layout}
 use Rattle.ae_flow.specs.Flow.{main_argument, first_width, width_of, parts}
@@ -162,10 +162,6 @@ choice-words op b t s z u a c d ts ws us type sign l f h g =
     → Stands u (word_result (op_for b o) (width_of (op_for b o) (a ∷ c ∷ d ∷ [])) (get_or ts 0 0) (get_or ws 0 0) (get_or us 0 0) ∷ [])
     (word_value o (value_of t ts ∷ value_of s ws ∷ value_of z us ∷ [])) in
     subst P (sym r.is) (λ m. choice-words-core b t s z u a c d ts ws us m sign l f h g) r
-
-as-there : (a : AtomTree) (o : Option SeqTree) (u : SeqTree) → as_word a o ≡ Some u → (t : SeqTree) × (o ≡ Some t) × (u ≡ atom a)
-as-there a None u h = absurd (none-some u h)
-as-there a (Some t) u h = (t, refl, sym (same_Some (atom a) u h))
 
 pub cast-words : (v : ℕ) (b : Bool) (s u : SeqTree) (a : StTree) (ws : List ℕ) → as_word (signed_word v) (one_word (s ∷ [])) ≡ Some u → IsSign s b
     → LaysOut s a → Fit s ws

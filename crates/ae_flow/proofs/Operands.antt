@@ -30,13 +30,11 @@ use Rattle.ae_flow.specs.Flow.{Callee, op_words, words_at, width_of}
 use Rattle.ae_flow.specs.Fitted.{FitsWord, FitsPair, FitsFirst, FitsSecond, FitsMove}
 use Rattle.ae_ports.specs.Ports.{streams_of}
 use Rattle.ae_flow.proofs.Widths.{FitWidths, fit_of, words_of, word_fit, pairs_fit, parts_fit}
+use Rattle.ae_gather.proofs.GatherLaw.{length_widths as length-widths_of}
 
 -- the widths of an element's words
 abbrev pub widths_of : StTree → List ℕ
 widths_of s = map (λ (k : WordKind). k.width) (atom_kinds (element_atom s))
-
-pub length-widths_of : (s : StTree) → length (widths_of s) ≡ element_words s
-length-widths_of s = length-map (atom_kinds (element_atom s)) (λ (k : WordKind). k.width) ∙ length-atom_kinds (element_atom s)
 
 -- ---- the words of several streams
 

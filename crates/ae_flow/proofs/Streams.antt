@@ -15,14 +15,12 @@ use Rattle.ae_rewrite.specs.declared.cases.Case.TheVariants.{Parallel, Spread, G
 use Rattle.ae_rewrite.specs.LayoutRule.{arranged, case_of, inner_of, lanes_of, slots_of, rounds_of, lay_of}
 use Rattle.ae_rewrite.proofs.Applies.{Applies, whole}
 use Rattle.ae_flow.specs.Fitted.{SameSlots, elements_stream}
+use Rattle.ae_sttype.proofs.Places.{same_slot}
 
 abbrev pub slot_at : ℕ → ℕ → Slot
 slot_at c l = record { clock = c; lane = l }
 
 -- ---- copies
-
-same_slot : (a b c d : ℕ) → a ≡ c → b ≡ d → slot_at a b ≡ slot_at c d
-same_slot a b c d p q = cc
 
 moved_none : (w : Slot) → moved 0 0 w ≡ w
 moved_none w = same_slot (0 + w.clock) (0 + w.lane) w.clock w.lane (omega arith) (omega arith)
@@ -31,7 +29,7 @@ all_moved_none : (ws : List Slot) → map (moved 0 0) ws ≡ ws
 all_moved_none [] = refl
 all_moved_none (w ∷ ws) = rw (moved_none w, all_moved_none ws) refl
 
-one_copy : (c l : ℕ) (ws : List Slot) → copies 1 c l ws ≡ ws
+pub one_copy : (c l : ℕ) (ws : List Slot) → copies 1 c l ws ≡ ws
 one_copy c l ws =
     let a : 0 * c ≡ 0 = omega arith in
     let b : 0 * l ≡ 0 = omega arith in

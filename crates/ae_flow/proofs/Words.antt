@@ -12,7 +12,7 @@ use Rattle.ae_seq.specs.Formed.{is_word_line, within}
 use Rattle.ae_seq.specs.Typing.{type_at, word_type, one_word, as_word}
 use Rattle.ae_seq.specs.Meaning.{result_kind}
 use Rattle.ae_eval.proofs.Items.{option-both}
-use Rattle.ae_eval.proofs.Wording.{one-line, two-line, choice-line}
+use Rattle.ae_eval.proofs.Wording.{one-line, two-line, choice-line, sized-word as kind_sized}
 use Rattle.ae_sttype.specs.StTree.{StTree}
 use Rattle.ae_ops.specs.Blocks.{stream_of}
 use Rattle.ae_ops.specs.Words.{operand_widths, word_stream}
@@ -30,9 +30,6 @@ pub record IsOneWord (k : WordKind) (s : StTree) : Type 0 where
   pub width : first_width s ≡ k.width
   pub low : 1 ≤ k.width
   pub high : k.width ≤ 64
-
-kind_sized : (k : WordKind) → IsTrue (in_size (atom (word k))) → (1 ≤ k.width) × (k.width ≤ 64)
-kind_sized k h = let a : 1 ≤ k.width = grind (arith, nat_tests) in let b : k.width ≤ 64 = grind (arith, nat_tests) in (a, b)
 
 pub word_laid : (k : WordKind) (budget : ℕ) (s : StTree) → IsLaidAs (atom (word k)) budget s → IsOneWord k s
 word_laid k budget s h =

@@ -167,7 +167,7 @@ same_place folds stride n q some whole =
     let at : q + n * stride ≡ n * turns * length folds + q = omega arith in
     ap (fold_at folds) at ∙ fold_at_add folds (n * turns) q some
 
-slot_in : (t : StTree) (a : ℕ) (s : Slot) → IsInSize t → slice_get (slots t) a ≡ Some s → (s.clock < time t) × (s.lane < lanes t)
+pub slot_in : (t : StTree) (a : ℕ) (s : Slot) → IsInSize t → slice_get (slots t) a ≡ Some s → (s.clock < time t) × (s.lane < lanes t)
 slot_in t a s size found =
     let la : a < st_atoms t = omega (arith, slice_get_within (slots t) a s found, length-slots t) in
     let same : slot_of t a ≡ s = get_or_from_slice_get (slots t) a s (slot_at 0 0) found in

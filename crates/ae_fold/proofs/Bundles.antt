@@ -45,7 +45,7 @@ abbrev widths_of : StTree → List ℕ
 widths_of t = map (λ (k : WordKind). k.width) (atom_kinds (element_atom t))
 
 -- the width of word q, where the words of an atom come again and again
-width_is : (op : WordOp) (t : StTree) (q : ℕ) → slice_get (widths_of t) (q % element_words t) ≡ Some (fold_at (element_folds op t) q).width
+pub width_is : (op : WordOp) (t : StTree) (q : ℕ) → slice_get (widths_of t) (q % element_words t) ≡ Some (fold_at (element_folds op t) q).width
 width_is op t q =
     let kinds : List WordKind = atom_kinds (element_atom t) in
     let none : WordKind = record { signed = false; width = 0 } in

@@ -34,7 +34,7 @@ get_append_cases xs ys q x d found = elim (cases_lt q (length xs)) [
   | inr l ↦ (let e : length xs + (q - length xs) ≡ q = omega arith in inr (l, sym (get_right xs ys (q - length xs)) ∙ (ap (slice_get (xs ++ ys)) e ∙ found)))
 ]
 
-sized_atom : (s : StTree) → HasLengths s → IsTrue (atom_in_size (element_atom s))
+pub sized_atom : (s : StTree) → HasLengths s → IsTrue (atom_in_size (element_atom s))
 sized_atom (atom a) h = h
 sized_atom (tseq n i t) h = sized_atom t h.1
 sized_atom (sseq n t) h = sized_atom t h.1

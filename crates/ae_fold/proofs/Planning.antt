@@ -11,7 +11,7 @@ columns_small t h =
     let l : lanes t * element_words t ≤ st_atoms t * element_words t = mul-le-mul_right (element_words t) (lanes-le-atoms t h.lengths) in
     omega (arith, h.in_words)
 
-product_some : (a b : ℕ) → 1 ≤ a → 1 ≤ b → 1 ≤ a * b
+pub product_some : (a b : ℕ) → 1 ≤ a → 1 ≤ b → 1 ≤ a * b
 product_some a b p q = grind arith
 
 pub columns_some : (t : StTree) → IsInSize t → 1 ≤ lanes t * element_words t

@@ -25,7 +25,8 @@ use Rattle.ae_trace.proofs.Natural.{map-map}
 use Rattle.ae_flow.specs.Flow.{layout_words}
 use Rattle.ae_fuse.specs.Labels.{labelled_origin, layout_origin}
 use Rattle.ae_fuse.specs.Clocks.{clock_copies, element_clocks, label_clocks, lead_of, spread, word_clocks}
-use Rattle.ae_fuse.proofs.NumberSteps.{origin-behind, origin-here, range-push, trees-more}
+use Rattle.ae_fuse.proofs.NumberSteps.{origin-behind, origin-here, trees-more}
+use Rattle.ae_moves.proofs.Held.{range_more as range-push}
 
 -- ---- the clocks of elements
 

@@ -14,6 +14,8 @@ use Rattle.ae_rewrite.specs.Scheduled.{node_layouts}
 use Rattle.ae_rewrite.specs.Sound.{item_layout, item_layouts}
 use Rattle.ae_flow.specs.Flow.{layout_words}
 use Rattle.ae_fuse.specs.Labels.{MovesWords, are_moving, is_moving, layout_numbers}
+use Rattle.ae_flow.proofs.Flowing.{node_layout as layout-of-node}
+use Rattle.ae_retime.proofs.Lists.{layouts_long as count-items}
 
 abbrev none : StTree
 none = sseq 0 (atom (unsigned_word 1))
@@ -34,14 +36,6 @@ input-sized f k t h found =
     subst IsInSize is (h.sizes k (omega (arith, low, length-append (st_trees f.ins.items) rest)))
 
 -- ---- nodes
-
-pub layout-of-node : (s : StFuncTree) (j : ℕ) (n : StNodeTree) → slice_get s.nodes j ≡ Some n → item_layout (item_layouts s) (length s.ins + j) ≡ n.type
-layout-of-node s j n found =
-    get_or-append-add s.ins (node_layouts s.nodes) j none ∙
-    get_or_from_slice_get (node_layouts s.nodes) j n.type none (get_mapped (λ (m : StNodeTree). m.type) s.nodes j n found)
-
-pub count-items : (s : StFuncTree) → length (item_layouts s) ≡ length s.ins + length s.nodes
-count-items s = length-append s.ins (node_layouts s.nodes) ∙ ap (λ k. length s.ins + k) (length-map s.nodes (λ (m : StNodeTree). m.type))
 
 pub node-moving : (ns : List StNodeTree) (j : ℕ) (n : StNodeTree) → are_moving ns ≡ true → slice_get ns j ≡ Some n → is_moving n.op ≡ true
 node-moving [] j n h f = absurd (none-some n f)

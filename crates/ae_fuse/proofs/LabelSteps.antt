@@ -26,7 +26,7 @@ use Rattle.ae_gather.specs.Gathers.{origin_word}
 use Rattle.ae_flow.specs.Flow.{node_words, op_words, parts, words_at}
 use Rattle.ae_flow.specs.Fitted.{FitsFirst, FitsMove, FitsOp, FitsPair, FitsSecond}
 use Rattle.ae_fuse.specs.Labels.{IsReady, label_from}
-use Rattle.ae_fuse.proofs.NumberSteps.{range-push}
+use Rattle.ae_moves.proofs.Held.{range_more as range-push}
 
 -- ---- moves
 

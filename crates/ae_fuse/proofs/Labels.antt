@@ -22,7 +22,7 @@ use Rattle.ae_rewrite.specs.StProgramTree.{StFuncTree}
 use Rattle.ae_rewrite.specs.Scheduled.{HasKey, IsInstance}
 use Rattle.ae_flow.specs.Flow.{item_words, words_at}
 use Rattle.ae_flow.proofs.MeaningNodes.{Standing}
-use Rattle.ae_flow.proofs.MeaningProgram.{items-stand}
+use Rattle.ae_flow.proofs.MeaningProgram.{items-stand, values-fit}
 use Rattle.ae_trace.specs.Traces.{is_movement_op, are_movements, numbered, renamed, word_numbered}
 use Rattle.ae_trace.proofs.Natural.{map-map, map-same, items-renamed, value-renamed}
 use Rattle.ae_trace.proofs.Tracing.{numbers-renamed}
@@ -123,7 +123,7 @@ cap-numbers most k (t ∷ ts) h =
     let first = value-renamed (capped most) zero_kept t (range_with_len k (words t)) ∙ ap (value_of t) (cap-range most k (words t) (omega arith)) in
     (λ i. first i ∷ cap-numbers most (k + words t) ts (omega arith) i)
 
-differ : (a : ℕ) → a ≡ 0 → a ≡ 1 → ⊥
+pub differ : (a : ℕ) → a ≡ 0 → a ≡ 1 → ⊥
 differ a h g = omega arith
 
 same-number : (most a b : ℕ) → a ≤ most → b ≤ most → word_numbered (bits_by one_everywhere most) a ≡ word_numbered (bits_by one_everywhere most) b
@@ -161,20 +161,6 @@ same-numbers most (x ∷ xs) (y ∷ ys) p q all each =
     (λ i. first i ∷ rest i)
 
 -- ---- labels
-
--- values and their words
-values-fit : (ts : List SeqTree) (vs : List ValueTree) → AreValues ts vs → AllFit ts (map flat vs) × (values_of ts (map flat vs) ≡ vs)
-values-fit [] [] h = (tt, refl)
-values-fit [] (v ∷ vs) h = absurd h
-values-fit (t ∷ ts) [] h = absurd h
-values-fit (t ∷ ts) (v ∷ vs) h =
-    let r = values-fit ts vs h.1 in
-    let st = h.0.1 in
-    let e : h.0.0 ≡ flat v = sym (own-words t h.0.0 v st) in (
-      (subst (λ ws. Fit t ws) e st.fits, r.0),
-      ap (λ ws. value_of t ws ∷ values_of ts (map flat vs)) (sym e) ∙
-          ap (λ x. x ∷ values_of ts (map flat vs)) st.value ∙ ap (λ xs. v ∷ xs) r.1,
-    )
 
 -- the instance of a movement program's function
 pub record IsMain (p : ProgramTree) (instances : List StFuncTree) (g : FuncTree) (s : StFuncTree) : Type 0 where

@@ -22,11 +22,12 @@ use Rattle.ae_lower.specs.Growth.{Adds, GrowsBy}
 use Rattle.ae_lower.specs.Parts.{IsWithin, plain_part}
 use Rattle.ae_lower.proofs.Delaying.{nets_grow}
 use Rattle.ae_lower.proofs.Following.{delayed}
-use Rattle.ae_lower.proofs.NodeLaw.{law_grows, slot_in}
+use Rattle.ae_lower.proofs.NodeLaw.{law_grows}
 use Rattle.ae_lower.proofs.Outputs.{columns_long}
 use Rattle.ae_lower.proofs.Placing.{law_as}
 use Rattle.ae_fuse.specs.Costing.{result_load, result_mems}
 use Rattle.ae_fuse.specs.Lowered.{AreLateResults, IsLateResult, late_part}
+use Rattle.ae_fold.proofs.Blocks.{slot_in}
 
 -- ---- one result
 

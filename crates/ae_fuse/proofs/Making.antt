@@ -26,9 +26,7 @@ use Rattle.ae_trace.specs.Traces.{is_movement, trace, traced_move}
 use Rattle.ae_trace.proofs.Typed.{are-laid, param-sized}
 use Rattle.ae_fuse.proofs.Words.{words-by-trace}
 use Rattle.ae_fuse.specs.Lowered.{MakesMoves, MovesMakeBlocks}
-
-whole-sized : (t : SeqTree) → IsTrue (in_size t) → IsTrue (parts_in_size t)
-whole-sized t h = grind (arith, nat_tests)
+use Rattle.ae_flow.proofs.MeaningProgram.{whole-sized}
 
 all-out : (slowdown : ℕ) (ts : List SeqTree) (ss : List StTree) → ((i : ℕ) (t : SeqTree) → slice_get ts i ≡ Some t → IsTrue (in_size t))
     → map (λ t. lay_of t slowdown) ts ≡ map (λ (s : StTree). Some s) ss → AllLaidOut ts ss

@@ -15,7 +15,9 @@ use Rattle.ae_fuse.specs.Fused.{IsMovable}
 use Rattle.ae_fuse.specs.Labels.{IsReady, labelled_origin, layout_numbers}
 use Rattle.ae_fuse.specs.Moved.{own_labels, own_move}
 use Rattle.ae_fuse.specs.Wanted.{KeepWanted}
-use Rattle.ae_fuse.proofs.ItemSteps.{count-items, layout-of-node, numbers-many}
+use Rattle.ae_fuse.proofs.ItemSteps.{numbers-many}
+use Rattle.ae_flow.proofs.Flowing.{node_layout as layout-of-node}
+use Rattle.ae_retime.proofs.Lists.{layouts_long as count-items}
 
 pub map-along : {X : Type 0} (f g : ℕ → X) (xs : List ℕ) → ((k x : ℕ) → slice_get xs k ≡ Some x → f x ≡ g x) → map f xs ≡ map g xs
 map-along f g [] h = refl

@@ -16,14 +16,7 @@ use Rattle.ae_moves.specs.Trees.{origin_tree}
 use Rattle.ae_rewrite.specs.StProgramTree.{st_trees}
 use Rattle.ae_flow.specs.Flow.{layout_words}
 use Rattle.ae_fuse.specs.Labels.{layout_numbers, layout_origin, labelled_origin}
-
--- one number more
-pub range-push : (a n : ℕ) → range_with_len a (n + 1) ≡ range_with_len a n ++ (a + n) ∷ []
-range-push a zero = ap (λ x. x ∷ []) (let e : a ≡ a + 0 = omega arith in e)
-range-push a (suc n) =
-    let e : suc n + 1 ≡ suc (n + 1) = omega arith in
-    let z : a + 1 + n ≡ a + suc n = omega arith in
-    ap (range_with_len a) e ∙ ap (λ xs. a ∷ xs) (range-push (a + 1) n ∙ ap (λ x. range_with_len (a + 1) n ++ x ∷ []) z)
+use Rattle.ae_moves.proofs.Held.{range_more as range-push}
 
 -- the words of all these layouts
 abbrev pub all_words : List StTree → ℕ

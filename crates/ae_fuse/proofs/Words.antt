@@ -17,6 +17,7 @@ use Rattle.ae_trace.proofs.Tracing.{means-by-trace}
 use Rattle.ae_trace.proofs.Origins.{HasNone, StandsAt, origin-cases, flat-renamed, at-map}
 use Rattle.ae_trace.proofs.Laying.{IsLaid}
 use Rattle.ae_trace.proofs.Typed.{AreLaid}
+use Rattle.ae_trace.proofs.Firsts.{index-there}
 
 pub index-flat : (vs : List ValueTree) (i : ℕ) → get_or (map flat vs) i [] ≡ flat (at vs i)
 index-flat [] i = refl
@@ -36,11 +37,6 @@ layout-there slowdown (x ∷ ts) [] h k t f = absurd h
 layout-there slowdown (x ∷ ts) (s ∷ ss) h zero t f = (let e : x ≡ t = cc in record { layout = s; found = refl; laid = subst (λ y. IsLaid y slowdown s) e h.0 })
 layout-there slowdown (x ∷ ts) (s ∷ ss) h (suc k) t f =
     (let r = layout-there slowdown ts ss h.1 k t f in record { layout = r.layout; found = r.found; laid = r.laid })
-
-pub index-there : (ss : List StTree) (k : ℕ) (s e : StTree) → slice_get ss k ≡ Some s → get_or ss k e ≡ s
-index-there [] k s e f = absurd (let h : None ≡ Some s = f in cc)
-index-there (x ∷ ss) zero s e f = cc
-index-there (x ∷ ss) (suc k) s e f = index-there ss k s e f
 
 module _ (slowdown : ℕ) (ts : List SeqTree) (ins : List StTree) (laid : AreLaid slowdown ts ins) (vs : List ValueTree) (values : AreValues ts vs) where
   found-word : (n : ℕ) (w : StandsAt 0 ts n) → origin_word ins (map flat vs) (origin_numbered ts (suc n)) ≡ get_or (flat_map flat vs) n 0

@@ -19,12 +19,10 @@ use Rattle.ae_gather.specs.Early.{IsEarlyColumn, IsMade, counter_for, first_phas
 use Rattle.ae_gather.specs.Plans.{AreUsed, choice_in, choice_of, choice_from, HasPlace, IsPlan}
 use Rattle.ae_gather.specs.Columns.{net_of, IsReady, AreReady}
 use Rattle.ae_gather.specs.Laws.{AreLines, AreColumns, AreFitting, FitsColumn}
-use Rattle.ae_gather.proofs.Choosing.{tap_grows, column_grows}
+use Rattle.ae_gather.proofs.Choosing.{column_grows}
 use Rattle.ae_moves.proofs.Lists.{take_push}
-
-pub taps_grow : {a b : List SizedCell} {rst w x : ℕ} {taps : List ℕ} {nets : List NetId} → Extends a b → AreTaps a rst w x taps nets
-    → AreTaps b rst w x taps nets
-taps_grow g h = record { long = h.long; each = λ k d y f t. tap_grows g (h.each k d y f t) }
+use Rattle.ae_clocked.proofs.Lining.{taps_grow}
+use Rattle.ae_clocked.proofs.Making.{tap_grows}
 
 pub lines_grow : (a b : List SizedCell) (rst : ℕ) (ins : List NetId) (ages : List (List ℕ)) (lines : List (List NetId)) → Extends a b
     → AreLines a rst ins ages lines → AreLines b rst ins ages lines

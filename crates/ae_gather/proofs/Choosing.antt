@@ -22,6 +22,7 @@ use Rattle.ae_gather.specs.declared.trips.PhaseNet.{PhaseNet}
 use Rattle.ae_gather.specs.declared.trips.Step.{Step}
 use Rattle.ae_gather.specs.Plans.{later, choice_in}
 use Rattle.ae_gather.specs.Columns.{net_of, age_of, taken, IsMarkTo, IsSource, IsPhaseNet, IsReady, AreReady, IsColumn}
+use Rattle.ae_clocked.proofs.Making.{tap_grows}
 
 -- ---- what goes on as a netlist grows
 
@@ -46,9 +47,6 @@ phase_grows {a} {b} {rst} {phase} g h =
 pub mark_grows : (a b : List SizedCell) (rst limit y phase from : ℕ) → Extends a b → InEveryResetRun a rst (λ run start. IsMarkTo limit run start y phase from)
     → InEveryResetRun b rst (λ run start. IsMarkTo limit run start y phase from)
 mark_grows a b rst limit y phase from g h = λ all e run r. h all (extends_trans g e) run r
-
-pub tap_grows : {a b : List SizedCell} {rst w x d y : ℕ} → Extends a b → IsTap a rst w x d y → IsTap b rst w x d y
-tap_grows g h = record { net = net_later g h.net; words = λ all e run r. h.words all (extends_trans g e) run r }
 
 pub ready_grows : (a b : List SizedCell) (rst w : ℕ) (ins : List NetId) (lines : List (List NetId)) (tap : ℕ) (choice : Choice) → Extends a b
     → IsReady a rst w ins lines tap choice → IsReady b rst w ins lines tap choice

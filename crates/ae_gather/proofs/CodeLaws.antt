@@ -22,8 +22,9 @@ use Rattle.ae_moves.specs.Rings.{mems_of}
 use Rattle.ae_moves.specs.Trees.{trip_tree}
 use Rattle.ae_moves.specs.Origins.{AllInSize, IsMove, Move, move_latency, move_trips, width_at}
 use Rattle.ae_gather.specs.Gathers.{AreWidths, gather_part}
-use Rattle.ae_moves.proofs.Words.{columns_small, in_row, words_pos}
+use Rattle.ae_moves.proofs.Words.{columns_small, words_pos}
 use Rattle.ae_gather.proofs.Typed.{used, within}
+use Rattle.ae_sttype.proofs.Places.{row_below as in_row}
 
 -- one width more
 pub widths_more : (s : StTree) (widths : List ℕ) (q width : ℕ) → length widths ≡ q → AreWidths s widths → width_at s (q % element_words s) ≡ Some width

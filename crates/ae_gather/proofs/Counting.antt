@@ -18,6 +18,7 @@ use Rattle.ae_gather.specs.Plans.{choice_from as code_choice, choice_of}
 use Rattle.ae_moves.specs.Trees.{choice_tree, source_tree, trip_tree}
 use Rattle.ae_moves.proofs.Lists.{get_mapped}
 use Rattle.ae_gather.proofs.Planning.{get_set_cases}
+use Rattle.ae_moves.proofs.Stretches.{last_after, last_after_push, changes_push}
 
 -- the choices of steps, and of a trip
 abbrev pub takes_of : List Step → List ChoiceTree
@@ -43,30 +44,15 @@ pub same_self : (x : ChoiceTree) → same_choice x x ≡ true
 same_self (delayed p a) = rw (eq-eqb p p refl, eq-eqb a a refl) refl
 same_self (always v) = eq-eqb v v refl
 
-last_after : ChoiceTree → List ChoiceTree → ChoiceTree
-last_after x [] = x
-last_after x (y ∷ ys) = last_after y ys
-
 -- the last of the choices
 pub last_of : List ChoiceTree → Option ChoiceTree
 last_of [] = None
 last_of (x ∷ xs) = Some (last_after x xs)
 
-last_after_push : (x : ChoiceTree) (ys : List ChoiceTree) (z : ChoiceTree) → last_after x (ys ++ z ∷ []) ≡ z
-unfolding last_after
-last_after_push x [] z = refl
-last_after_push x (y ∷ ys) z = last_after_push y ys z
-
 pub last_push : (xs : List ChoiceTree) (z : ChoiceTree) → last_of (xs ++ z ∷ []) ≡ Some z
 unfolding last_after last_of
 last_push [] z = refl
 last_push (x ∷ xs) z = ap Some (last_after_push x xs z)
-
-changes_push : (x : ChoiceTree) (ys : List ChoiceTree) (z : ChoiceTree)
-    → changes_after same_choice x (ys ++ z ∷ []) ≡ changes_after same_choice x ys + cond (same_choice (last_after x ys) z) 0 1
-unfolding last_after
-changes_push x [] z = refl
-changes_push x (y ∷ ys) z = omega (arith, changes_push y ys z)
 
 -- a choice that goes on makes no new run
 runs_on : (xs : List ChoiceTree) (z : ChoiceTree) → last_of xs ≡ Some z → stretches same_choice (xs ++ z ∷ []) ≡ stretches same_choice xs

@@ -16,7 +16,7 @@ use Rattle.ae_sttype.specs.Slots.{slots}
 use Rattle.ae_sttype.specs.Holds.{Holds}
 use Rattle.ae_sttype.specs.Size.{HasLengths, IsInSize}
 use Rattle.ae_sttype.specs.Moves.{OriginTree, SourceTree, TripTree, place, constant, from_input, fixed, columns_of, column_number, first_column, source_of}
-use Rattle.ae_sttype.proofs.Places.{length-slots, slot_below, slot_of, stands_from_get}
+use Rattle.ae_sttype.proofs.Places.{length-slots, slot_below, slot_of, stands_from_get, row_below as in_row}
 use Rattle.ae_netlist.specs.declared.cell.NetId.{NetId}
 use Rattle.ae_netlist.specs.declared.cell.SizedCell.{SizedCell}
 use Rattle.ae_netlist.specs.Circuit.{IsNet}
@@ -35,7 +35,7 @@ use Rattle.ae_gather.specs.Gathers.{AreWidths, gather_part, origin_word}
 use Rattle.ae_gather.specs.Joins.{AreJoined}
 use Rattle.ae_gather.proofs.OneList.{get_append_cases, get_right}
 use Rattle.ae_moves.proofs.Lists.{get_mapped}
-use Rattle.ae_moves.proofs.Words.{column_below, in_row, origin_at, sizes_of, trip_at, trip_there, word_below, words_pos}
+use Rattle.ae_moves.proofs.Words.{column_below, origin_at, sizes_of, trip_at, trip_there, word_below, words_pos}
 
 -- ---- widths by column
 
@@ -57,7 +57,7 @@ repeated_at d (suc n) xs (suc l) j p q =
 abbrev widths_of : StTree → List ℕ
 widths_of s = map (λ (k : WordKind). k.width) (atom_kinds (element_atom s))
 
-length_widths : (s : StTree) → length (widths_of s) ≡ element_words s
+pub length_widths : (s : StTree) → length (widths_of s) ≡ element_words s
 length_widths s = length-map (atom_kinds (element_atom s)) (λ (k : WordKind). k.width) ∙ length-atom_kinds (element_atom s)
 
 pub widths_at : (s : StTree) (l j : ℕ) → l < lanes s → j < element_words s → slice_get (stream_widths (stream_of s)) (l * element_words s + j) ≡ width_at s j

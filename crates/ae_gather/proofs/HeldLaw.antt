@@ -5,20 +5,8 @@ use Rattle.std.proofs.Math.Nat.{div-add-mod, mul-le-mul_left}
 use Rattle.ae_netlist.specs.Runs.{Clock, word_at, HasWords}
 use Rattle.ae_clocked.specs.Phases.{phase_of}
 use Rattle.ae_gather.specs.Held.{IsKept, Holds}
-
--- clocks that are less than a period apart have different phases
-pub phases_differ : (d s c : ℕ) → s < c → c < s + d → s % d ≢ c % d
-phases_differ d s c l h e =
-    let a : d * (s / d) + s % d ≡ s = div-add-mod s d in
-    let b : d * (c / d) + c % d ≡ c = div-add-mod c d in
-    elim (cases_lt (s / d) (c / d)) [
-      | inl less ↦
-          let m : d * (s / d + 1) ≤ d * (c / d) = mul-le-mul_left d (omega arith) in
-          omega (arith, a, b, m)
-      | inr more ↦
-          let m : d * (c / d) ≤ d * (s / d) = mul-le-mul_left d more in
-          omega (arith, a, b, m)
-    ]
+use Rattle.ae_clocked.proofs.RingLaw.{phases_differ}
+use Rattle.ae_clocked.proofs.Turns.{bit_chooses}
 
 other_phase : (p o c a : ℕ) → o < p → 1 ≤ a → a < p → phase_of p o (c + a) ≢ phase_of p o c
 unfolding phase_of
@@ -45,10 +33,6 @@ held run start y x r p o q less kept counts c zero here some within l = absurd (
 held run start y x r p o q less kept counts c (suc a) here some within l =
     kept_on run start y x r p o q c a less kept counts here within l
     (λ more. held run start y x r p o q less kept counts c a here more (omega arith) (omega arith))
-
-bit_chooses : (v : Bool) (x y : ℕ) → (if (if v then 1 else 0) == 1 then x else y) ≡ (if v then x else y)
-bit_chooses true x y = refl
-bit_chooses false x y = refl
 
 -- one clock of the register
 pub kept_is : (r q begin begins x y next after : ℕ)

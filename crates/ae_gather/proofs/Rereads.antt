@@ -20,10 +20,7 @@ use Rattle.ae_gather.specs.Plans.{AreInOrder, AreUsed, AreWithin, IsIn, IsReache
 use Rattle.ae_gather.specs.Readers.{AreReads, ReadsPlaces, ShowsPlaces}
 use Rattle.ae_gather.specs.Reads.{ArePlaced, IsPlaceOf, is_from, is_read, placed, read_source, read_trip}
 use Rattle.ae_gather.proofs.Hastened.{get_unmapped}
-
-both : (a b : Bool) → (a && b) ≡ true → (a ≡ true) × (b ≡ true)
-both true b h = (refl, h)
-both false b h = cc
+use Rattle.ae_moves.proofs.Held.{both}
 
 some_from : (o : Option ℕ) (x : ℕ) → is_from o x ≡ true → o ≡ Some x
 some_from (Some y) x e = ap Some (eqb-true y x e)

@@ -19,7 +19,7 @@ use Rattle.ae_moves.specs.Trees.{source_tree, trip_tree}
 use Rattle.ae_moves.specs.declared.trip.Source.{Source}
 use Rattle.ae_moves.specs.declared.trip.Source.TheVariants.{Place, Fixed}
 use Rattle.ae_moves.specs.declared.trip.Trip.{Trip}
-use Rattle.ae_moves.proofs.Held.{held_use, sum_more}
+use Rattle.ae_moves.proofs.Held.{held_use, sum_more, both}
 use Rattle.ae_moves.proofs.Lists.{fold_ge, get_mapped}
 use Rattle.ae_gather.specs.Columns.{net_of}
 use Rattle.ae_gather.specs.Held.{AreKept, Holds, held_phase, is_kept, kept_count, settled, settled_source}
@@ -351,10 +351,6 @@ runs_settled d outs held trips moved is =
 is_there : (h : Option ℕ) → is_some h ≡ true → (k : ℕ) × (h ≡ Some k)
 is_there (Some k) on = (k, refl)
 is_there None on = cc
-
-both : (a b : Bool) → (a && b) ≡ true → (a ≡ true) × (b ≡ true)
-both true b h = (refl, h)
-both false b h = cc
 
 clock_is : (a b : Bool) (k m : ℕ) → Some k ≡ cond (a && b) (Some m) None → (a ≡ true) × (k ≡ m)
 clock_is true true k m e = (refl, cc)

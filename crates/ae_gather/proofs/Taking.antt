@@ -6,32 +6,7 @@ use Rattle.std.proofs.Math.Nat.{add-mul-mod_self_left, div-add-mod, mod-add-mod,
 use Rattle.ae_netlist.specs.Runs.{Clock, word_at}
 use Rattle.ae_clocked.specs.Phases.{phase_of}
 use Rattle.ae_gather.specs.Held.{Holds}
-
--- a number below three periods is its rest, and up to two periods more
-near : (p n : ℕ) → n < p + p + p → (n ≡ n % p) ⊎ ((n ≡ n % p + p) ⊎ (n ≡ n % p + p + p))
-near p n h = elim (cases_lt n p) [
-  | inl l ↦ inl (sym (mod-eq_of_lt l))
-  | inr ge ↦ elim (cases_lt (n - p) p) [
-    | inl l ↦
-        let e : n % p ≡ n - p = mod-eq-sub-mod ge ∙ mod-eq_of_lt l in
-        inr (inl (omega (arith, e)))
-    | inr more ↦
-        let l : n - p - p < p = omega arith in
-        let e : n % p ≡ n - p - p = mod-eq-sub-mod ge ∙ (mod-eq-sub-mod more ∙ mod-eq_of_lt l) in
-        inr (inr (omega (arith, e)))
-  ]
-]
-
--- the same number more, below two periods, keeps numbers below a period apart
-apart : (p x q s : ℕ) → x < p → q < p → s < p + p → (x + s) % p ≡ (q + s) % p → x ≡ q
-apart p x q s lx lq ls e =
-    let a = near p (x + s) (omega arith) in
-    let b = near p (q + s) (omega arith) in
-    elim a [
-      | inl u ↦ elim b [ inl v ↦ omega (arith, e, u, v) | inr (inl v) ↦ omega (arith, e, u, v) | inr (inr v) ↦ omega (arith, e, u, v) ]
-      | inr (inl u) ↦ elim b [ inl v ↦ omega (arith, e, u, v) | inr (inl v) ↦ omega (arith, e, u, v) | inr (inr v) ↦ omega (arith, e, u, v) ]
-      | inr (inr u) ↦ elim b [ inl v ↦ omega (arith, e, u, v) | inr (inl v) ↦ omega (arith, e, u, v) | inr (inr v) ↦ omega (arith, e, u, v) ]
-    ]
+use Rattle.ae_clocked.proofs.Marked.{near, apart}
 
 -- in phase p the word of age p + d - k stood in the phase that belongs to clock k of the input's block
 pub phase_back : (t o d k p a c : ℕ) → o < t → p < t → k ≤ p + d → p + d - k ≡ a → a ≤ t → a ≤ c → phase_of t o c ≡ p

@@ -10,7 +10,7 @@ use Rattle.ae_sttype.specs.Size.{HasLengths, IsInSize}
 use Rattle.ae_sttype.specs.Moves.{SourceTree, TripTree, fixed, columns_of, lead_from}
 use Rattle.ae_sttype.proofs.Bounds.{lanes_pos}
 use Rattle.ae_sttype.proofs.Lively.{lane_order}
-use Rattle.ae_sttype.proofs.Places.{get_or-copies, length-slots, slot_at, slot_below, slot_of}
+use Rattle.ae_sttype.proofs.Places.{get_or-copies, length-slots, slot_at, slot_below, slot_of, row_below as in_row}
 use Rattle.ae_moves.specs.declared.trip.Source.{Source}
 use Rattle.ae_moves.specs.declared.trip.Source.TheVariants.{Place, Fixed}
 use Rattle.ae_moves.specs.declared.trip.Trip.{Trip}
@@ -18,7 +18,7 @@ use Rattle.ae_gather.specs.Plans.{AreInOrder, AreUsed, AreWithin, IsIn, IsReache
 use Rattle.ae_moves.specs.Trees.{source_tree, trip_tree}
 use Rattle.ae_moves.specs.Origins.{IsMove, Move, move_latency, move_trips}
 use Rattle.ae_moves.proofs.Lists.{fold_ge, get_mapped}
-use Rattle.ae_moves.proofs.Words.{in_row, words_pos, sizes_of, trip_at, trip_there, column_below, InTree, origin_in, origin_at}
+use Rattle.ae_moves.proofs.Words.{words_pos, sizes_of, trip_at, trip_there, column_below, InTree, origin_in, origin_at}
 
 -- ---- numbers and parts
 

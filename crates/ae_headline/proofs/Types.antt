@@ -16,7 +16,6 @@ use Rattle.ae_seq.specs.Formed.{all_below, item_count}
 use Rattle.ae_seq.specs.Meaning.{mean}
 use Rattle.ae_seq.specs.Typing.{type_at, ◌>>=◌}
 use Rattle.ae_netlist.specs.Circuit.{Circuit}
-use Rattle.ae_fields.proofs.Bools.{and-first, and-second}
 use Rattle.ae_eval.specs.Stack.{IsTyped, types_in}
 use Rattle.ae_seq.proofs.Types.{item-sized}
 use Rattle.ae_eval.proofs.Accepting.{func-types}
@@ -31,6 +30,7 @@ use Rattle.ae_verilog.specs.ReportLines.{ReportTree}
 use Rattle.ae_correct.specs.Laws.{IsLaidOut}
 use Rattle.ae_headline.specs.Headline.{Computes}
 use Rattle.ae_headline.proofs.Meant.{answers}
+use Rattle.ae_seq.proofs.Judging.{left as and-first, right as and-second}
 
 -- ---- a value tells its type, where no length is 0
 

@@ -11,14 +11,7 @@ use Rattle.ae_judge.specs.Judging.{IsFirstOf, earlier, first_from, has_place, wi
 use Rattle.ae_judge.proofs.Members.{find_some, find_none}
 use Rattle.ae_judge.proofs.Scan.{clash, first_map}
 use Rattle.ae_judge.proofs.Unknowns.{any_among, among_any, among_in, not_in, no_names, first_passes, find_before, in_order}
-use Rattle.ae_judge.proofs.Doubled.{first_either, names_many}
-
-or_left : (a b : Bool) → a ≡ true → (a || b) ≡ true
-or_left a b h = ap (λ c. c || b) h
-
-or_right : (a b : Bool) → b ≡ true → (a || b) ≡ true
-or_right true b h = refl
-or_right false b h = h
+use Rattle.ae_judge.proofs.Doubled.{first_either, names_many, or_right, or_left}
 
 not_false : (b : Bool) → not b ≡ true → b ≡ false
 not_false true h = absurd (let e : false ≡ true = h in cc)

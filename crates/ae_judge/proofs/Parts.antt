@@ -7,6 +7,7 @@ use Rattle.ae_vread.specs.View.{expr_tree, parts_tree, parts_behind, stmt_tree, 
 use Rattle.ae_vread.specs.declared.module.Expr.{Expr, Concat, Concat', Row_of-Expr, end_of-Expr, more_of-Expr, items-the_row-Expr, items_hidden-the_row-Expr-0}
 use Rattle.ae_vread.specs.declared.module.Stmt.{Stmt, Block, Block', Row_of-Stmt, end_of-Stmt, more_of-Stmt, items-the_row-Stmt, items_hidden-the_row-Stmt-0}
 use Rattle.ae_judge.specs.Shape.{IsLettered, IsLetteredStmt}
+use Rattle.ae_vread.proofs.Rows.{behind, of_row, concat_view, of_stmts, block_view}
 
 -- the concatenation of parts; one of none is that of a name of no letters
 abbrev pub concat_behind : ExprTree → List ExprTree → ExprTree
@@ -21,19 +22,6 @@ abbrev row_of : Expr → (n : Count) × Row_of-Expr n
 row_of (Concat' _ row) = (_, row)
 row_of _ = (_, end_of-Expr)
 
-behind : (n : _) (row : Row_of-Expr n) (first : ExprTree) → parts_behind first row ≡ concat_behind first (map expr_tree (items-the_row-Expr n row))
-behind n end_of-Expr first = refl
-behind n (more_of-Expr a rest) first = ap (concat_more first) (behind _ rest (expr_tree a))
-
-of_row : (n : _) (row : Row_of-Expr n) → parts_tree row ≡ concat_of (map expr_tree (items-the_row-Expr n row))
-of_row n end_of-Expr = refl
-of_row n (more_of-Expr a rest) = behind _ rest (expr_tree a)
-
-pub concat_view : (parts : Vec Expr Global) → expr_tree (Concat parts) ≡ concat_of (map expr_tree parts.items)
-concat_view parts =
-    let row = row_of (Concat parts) in
-    of_row row.0 row.1 ∙ ap (λ xs. concat_of (map expr_tree xs)) (items_hidden-the_row-Expr-0 parts)
-
 -- the block of statements
 abbrev pub block_of : List StmtTree → StmtTree
 block_of [] = block_end
@@ -42,15 +30,6 @@ block_of (x ∷ xs) = block_more x (block_of xs)
 abbrev stmt_row : Stmt → (n : Count) × Row_of-Stmt n
 stmt_row (Block' _ row) = (_, row)
 stmt_row _ = (_, end_of-Stmt)
-
-of_stmts : (n : _) (row : Row_of-Stmt n) → block_tree row ≡ block_of (map stmt_tree (items-the_row-Stmt n row))
-of_stmts n end_of-Stmt = refl
-of_stmts n (more_of-Stmt a rest) = ap (block_more (stmt_tree a)) (of_stmts _ rest)
-
-pub block_view : (parts : Vec Stmt Global) → stmt_tree (Block parts) ≡ block_of (map stmt_tree parts.items)
-block_view parts =
-    let row = stmt_row (Block parts) in
-    of_stmts row.0 row.1 ∙ ap (λ xs. block_of (map stmt_tree xs)) (items_hidden-the_row-Stmt-0 parts)
 
 lettered_behind : (first : ExprTree) (es : List ExprTree) → IsLettered (concat_behind first es) → AllByRecursion IsLettered (first ∷ es)
 lettered_behind first [] h = (h, tt)

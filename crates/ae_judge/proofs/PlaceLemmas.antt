@@ -15,6 +15,8 @@ use Rattle.ae_vread.specs.ModuleTree.{NetTree}
 use Rattle.ae_judge.specs.Names.{net_named}
 use Rattle.ae_judge.specs.Places.{Entry, place_in, with_place, places_of, HasNames, Finds}
 use Rattle.ae_judge.proofs.Members.{same_bytes, bytes_same, other_bytes}
+use Rattle.ae_judge.proofs.Loops.{or_assoc}
+use Rattle.ae_judge.proofs.Misused.{or_false}
 
 abbrev or_else : {X : Type 0} → Option X → Option X → Option X
 or_else None o = o
@@ -69,14 +71,6 @@ has_with es m p n =
     ap is_some (place_with es m p n) ∙ is_some_or (place_in es n) (if bytes_eq n m then Some p else None)
     ∙ ap (λ b. is_some (place_in es n) || b) (is_some_if (bytes_eq n m) p)
 
-or_assoc : (a b c : Bool) → ((a || b) || c) ≡ (a || (b || c))
-or_assoc true b c = refl
-or_assoc false b c = refl
-
-or_false : (a : Bool) → (a || false) ≡ a
-or_false true = refl
-or_false false = refl
-
 pub any_append : {X : Type 0} (test : X → Bool) (xs ys : List X) → list_any test (xs ++ ys) ≡ (list_any test xs || list_any test ys)
 any_append test [] ys = refl
 any_append test (x ∷ xs) ys = ap (λ b. test x || b) (any_append test xs ys) ∙ sym (or_assoc (test x) (list_any test xs) (list_any test ys))
@@ -104,7 +98,7 @@ get_last : {X : Type 0} (xs : List X) (x : X) → slice_get (xs ++ x ∷ []) (le
 get_last [] x = refl
 get_last (z ∷ xs) x = get_last xs x
 
-get_within : {X : Type 0} (xs : List X) (p : ℕ) → p < length xs → (x : X) × (slice_get xs p ≡ Some x)
+pub get_within : {X : Type 0} (xs : List X) (p : ℕ) → p < length xs → (x : X) × (slice_get xs p ≡ Some x)
 get_within [] p h = absurd (omega arith)
 get_within (x ∷ xs) zero h = (x, refl)
 get_within (x ∷ xs) (suc p) h = get_within xs p (omega arith)

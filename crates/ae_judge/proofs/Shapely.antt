@@ -15,6 +15,7 @@ use Rattle.ae_vread.specs.Spells.{Spells}
 use Rattle.ae_judge.specs.Names.{Among}
 use Rattle.ae_judge.specs.Shape.{IsLettered, IsPlaced, EachInStmt, EachInDrive, IsLetteredItem, IsPlacedItem, IsShapely}
 use Rattle.ae_judge.proofs.TokenShape.{AreSound, sound_split, tokens_sound, tokens_few}
+use Rattle.ae_vread.proofs.ModuleLaws.{some_tokens as item_long}
 
 -- expressions
 
@@ -312,13 +313,6 @@ items_nets_few k (f ∷ fs) =
       length-append (item_nets k f) (nets_from (k + 1) fs),
       length-append (item_tokens f) (flat_map item_tokens fs),
     )
-
-item_long : (f : ItemForm) → 1 ≤ length (item_tokens f)
-item_long (WireItem range first more) = omega arith
-item_long (WireDrives range first more) = omega arith
-item_long (RegItem range first more) = omega arith
-item_long (AssignItem first more) = omega arith
-item_long (AlwaysItem clock body) = omega arith
 
 items_few : (fs : List ItemForm) → length (map item_of fs) ≤ length (flat_map item_tokens fs)
 items_few [] = omega arith

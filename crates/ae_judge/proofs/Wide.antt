@@ -15,6 +15,7 @@ use Rattle.ae_judge.specs.Shape.{IsLettered}
 use Rattle.ae_judge.specs.Widths.{own_width, binary_width}
 use Rattle.ae_judge.specs.Faults.{is_outside_of, is_too_wide, is_too_wide_in_stmt}
 use Rattle.ae_judge.proofs.Parts.{concat_behind, concat_of, block_of, lettered_some}
+use Rattle.ae_judge.proofs.Doubled.{or_left as or_first}
 
 -- the width of an operator, from widths up to 65
 pub capped_binary : (op : BinOp) (a b : ℕ) → binary_width op (min a 65) (min b 65) ≡ min (binary_width op a b) 65
@@ -149,9 +150,6 @@ wide_concat ns (x ∷ xs) h = wide_behind ns x xs
 pub wide_block : (ns : List NetTree) (ss : List StmtTree) → is_too_wide_in_stmt ns (block_of ss) ≡ list_any (is_too_wide_in_stmt ns) ss
 wide_block ns [] = refl
 wide_block ns (s ∷ ss) = ap (λ b. is_too_wide_in_stmt ns s || b) (wide_block ns ss)
-
-pub or_first : (a b : Bool) → a ≡ true → (a || b) ≡ true
-or_first a b h = ap (λ c. c || b) h
 
 pub where_none : {X : Type 0} (r : Option X) (A : Type 0) → A → IfNone r A
 where_none None A a = a

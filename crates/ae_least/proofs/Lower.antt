@@ -34,6 +34,7 @@ use Rattle.ae_trace.proofs.Laying.{AllWide, IsLaid, slot-there, IsPlaced, is-pla
 use Rattle.ae_least.proofs.Ports.{HasPort, input-port, output-port, input-among, output-among, net-of-port, input-kind, not-clock}
 use Rattle.ae_least.proofs.Givens.{RunsAs, runs-as, input-word, alike}
 use Rattle.ae_least.proofs.Blocks.{ShowsBits, IsRead, is-read, read-block, read-word-at, read-values, read-holds}
+use Rattle.ae_fuse.proofs.Labels.{differ}
 
 -- ---- the greatest
 
@@ -171,9 +172,6 @@ module _ (m : ModuleTree) (ok : IsWellFormed m) (ins outs : List StTree) (ports 
         omega arith
 
 -- ---- a word of a result that comes from a word of a parameter
-
-differ : (a : ℕ) → a ≡ 0 → a ≡ 1 → ⊥
-differ a h g = omega arith
 
 -- the first bytes of names
 not-reset : (name tail : List ℕ) → name ≡ 105 ∷ tail → bytes_eq name (codes "rst") ≡ false

@@ -34,8 +34,10 @@ use Rattle.ae_lower.specs.Growth.{IsBuilt}
 use Rattle.ae_lower.specs.Nodes.{arguments_of, node_part}
 use Rattle.ae_lower.specs.Lowering.{IsItem, bodies_part, item_part, lane_nets}
 use Rattle.ae_lower.proofs.Delaying.{nets_grow}
-use Rattle.ae_lower.proofs.Spreading.{in_row, spread, widths_long}
-use Rattle.ae_lower.proofs.NodeLaw.{same_means, slot_in}
+use Rattle.ae_lower.proofs.Spreading.{in_row, spread}
+use Rattle.ae_lower.proofs.NodeLaw.{same_means}
+use Rattle.ae_fold.proofs.Blocks.{slot_in}
+use Rattle.ae_ports.proofs.Columns.{element_columns as widths_long}
 
 -- ---- stretches of nets
 

@@ -24,12 +24,10 @@ use Rattle.ae_delay.proofs.Instances.{node_sound}
 use Rattle.ae_retime.specs.Slacks.{joint_slacks, joint_uses}
 use Rattle.ae_lower.specs.Delaying.{delay_load}
 use Rattle.ae_lower.specs.Lowering.{IsNodeAt, arrivals_in, costs_in, instance_costs, timings_in}
+use Rattle.ae_delay.proofs.Meeting.{most_same as greatest_same}
+use Rattle.ae_moves.proofs.Lists.{from_first as greatest_from}
 
 -- ---- the latest of some items
-
-greatest_from : {X : Type 0} (f : X → ℕ) (a : ℕ) (xs : List X) → a ≤ fold (λ most x. max most (f x)) a xs
-greatest_from f a [] = omega arith
-greatest_from f a (x ∷ xs) = let l : max a (f x) ≤ fold (λ most y. max most (f y)) (max a (f x)) xs = greatest_from f (max a (f x)) xs in omega (arith, l)
 
 greatest_at : {X : Type 0} (f : X → ℕ) (a : ℕ) (xs : List X) (r : ℕ) (x : X) → slice_get xs r ≡ Some x → f x ≤ fold (λ most y. max most (f y)) a xs
 greatest_at f a [] r x h = absurd (none-some x h)
@@ -41,12 +39,6 @@ greatest_at f a (y ∷ ys) (suc r) x h = greatest_at f (max a (f y)) ys r x h
 
 pub latest_at : (arrivals items : List ℕ) (r i : ℕ) → slice_get items r ≡ Some i → get_or arrivals i 0 ≤ latest arrivals items
 latest_at arrivals items r i h = greatest_at (λ a. get_or arrivals a 0) 0 items r i h
-
-greatest_same : (f g : ℕ → ℕ) (a : ℕ) (xs : List ℕ) → ((r i : ℕ) → slice_get xs r ≡ Some i → f i ≡ g i)
-    → fold (λ most x. max most (f x)) a xs ≡ fold (λ most x. max most (g x)) a xs
-greatest_same f g a [] same = refl
-greatest_same f g a (x ∷ xs) same =
-    ap (λ v. fold (λ most y. max most (f y)) (max a v) xs) (same 0 x refl) ∙ greatest_same f g (max a (g x)) xs (λ r i h. same (suc r) i h)
 
 uses_same : (xs ys : List ℕ) (start : ℕ) (chosen : List ℕ) → ((r i : ℕ) → slice_get chosen r ≡ Some i → get_or xs i 0 ≡ get_or ys i 0)
     → uses_at xs start chosen ≡ uses_at ys start chosen

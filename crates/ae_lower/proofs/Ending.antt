@@ -27,7 +27,8 @@ use Rattle.ae_lower.proofs.NodeLaw.{items_wait}
 use Rattle.ae_lower.proofs.BodyLaw.{bodies_built, lane_bundles}
 use Rattle.ae_lower.proofs.Costing.{costs_are, sums_most, timings_long, wait_at}
 use Rattle.ae_lower.proofs.Instances.{AreLowered, AreSpread, HaveSpent, bundles_grow, standing}
-use Rattle.ae_lower.proofs.Placed.{items_many, standing_delays}
+use Rattle.ae_lower.proofs.Placed.{standing_delays}
+use Rattle.ae_retime.proofs.Lists.{layouts_long as items_many}
 
 -- ---- nodes
 

@@ -17,27 +17,14 @@ use Rattle.ae_fold.specs.Folding.{fold_at, word_fold}
 use Rattle.ae_fold.specs.Shapes.{FoldShape, element_folds, element_size, folded}
 use Rattle.ae_fold.proofs.Associative.{fold_fits}
 use Rattle.ae_fold.proofs.Blocks.{AllFit}
-use Rattle.ae_fold.proofs.Bundles.{column_width, length-folds, words_fit}
+use Rattle.ae_fold.proofs.Bundles.{column_width, length-folds, words_fit, width_is as fold_width}
 use Rattle.ae_fold.proofs.Kinding.{are_folds}
 use Rattle.ae_fold.proofs.Looping.{fold_op}
 use Rattle.ae_reduce.specs.Reduces.{reduce_part}
 use Rattle.ae_ops.specs.Blocks.{AreWords, AllAreWords, stream_of}
 use Rattle.ae_delay.proofs.Sourced.{numbered}
-use Rattle.ae_lower.proofs.Streams.{length_widths, widths_of}
-
--- the width of word q of an element, where words are folded
-fold_width : (op : WordOp) (t : StTree) (q : ℕ) → slice_get (widths_of t) (q % element_words t) ≡ Some (fold_at (element_folds op t) q).width
-fold_width op t q =
-    let w : ℕ = element_words t in
-    let low : q % w < w = mod_below q w (element_words_pos t) in
-    let first : slice_get (widths_of t ++ []) (q % w) ≡ Some (fold_at (element_folds op t) (q % w)).width = column_width op t 1 (q % w) (omega (arith, low)) in
-    let none : 0 * w + q % w ≡ q % w = omega arith in
-    let turn : q % w % w ≡ q % w = ap (λ x. x % w) (sym none) ∙ mod-mul-add 0 w (q % w) low in
-    let same : fold_at (element_folds op t) (q % w) ≡ fold_at (element_folds op t) q =
-    ap (λ n. get_or (element_folds op t) (q % w % n) (record { op = Add; width = 0 })) (length-folds op t)
-    ∙ (ap (λ i. get_or (element_folds op t) i (record { op = Add; width = 0 })) turn ∙
-    ap (λ n. get_or (element_folds op t) (q % n) (record { op = Add; width = 0 })) (sym (length-folds op t))) in
-    ap (λ ws. slice_get ws (q % w)) (sym (append-nil (widths_of t))) ∙ (first ∙ ap (λ (f : WordFold). Some f.width) same)
+use Rattle.ae_lower.proofs.Streams.{widths_of}
+use Rattle.ae_gather.proofs.GatherLaw.{length_widths}
 
 word_fits : (op : WordOp) (t : StTree) (n m : ℕ) (v : List ℕ) (p : ℕ) → folds op ≡ true → IsInSize t → 1 ≤ n * m → p < element_size t
     → AreWords (stream_of (tseq n 0 (sseq m t))) v

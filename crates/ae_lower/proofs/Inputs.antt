@@ -20,6 +20,8 @@ use Rattle.ae_netlist.specs.declared.cell.Port.TheVariants.{In}
 use Rattle.ae_netlist.specs.Circuit.{Circuit}
 use Rattle.ae_ops.specs.Blocks.{Stream, stream_of, stream_widths}
 use Rattle.ae_lower.specs.PortNets.{AddsInputs, bundles_from, nets_from}
+use Rattle.ae_fold.proofs.Kinding.{sized_atom}
+use Rattle.ae_ports.proofs.Columns.{element_columns as widths_long}
 
 -- ---- lists of ports
 
@@ -132,9 +134,6 @@ inputs_one a b x y net p made is pushed = record { cells = made; nets = pushed �
 
 -- ---- widths of words
 
-pub widths_long : (s : StTree) → length (stream_of s).widths ≡ element_words s
-widths_long s = length-map (atom_kinds (element_atom s)) (λ (k : WordKind). k.width) ∙ length-atom_kinds (element_atom s)
-
 -- there is a width for each word of an atom
 pub width_there : (a : AtomTree) (word : ℕ) → word < atom_words a → option_map (λ (k : WordKind). k.width) (slice_get (atom_kinds a) word) ≡ None → ⊥
 width_there a word h none =
@@ -221,8 +220,3 @@ params_most b c k t bundle size one =
     let lanes : lanes (st_tree t) * length s.widths ≡ lanes (st_tree t) * element_words (st_tree t) = ap (λ n. lanes (st_tree t) * n)
     (widths_long (st_tree t)) in
     omega (arith, inputs_long one, length-lane_ports (In k) s.widths s.lanes, lanes, columns_small (st_tree t) size)
-
-pub sized_atom : (s : StTree) → HasLengths s → IsTrue (atom_in_size (element_atom s))
-sized_atom (atom a) h = h
-sized_atom (tseq n i t) h = sized_atom t h.1
-sized_atom (sseq n t) h = sized_atom t h.1

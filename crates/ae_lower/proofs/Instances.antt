@@ -23,9 +23,10 @@ use Rattle.ae_lower.specs.Growth.{Adds, GrowsBy, Spends}
 use Rattle.ae_lower.specs.Lowering.{AreChosen, AreItems, AreStanding, IsItem, arrivals_in, instance_costs, lane_nets, timings_in}
 use Rattle.ae_lower.proofs.Growing.{adds_trans, adds_up, by_trans, spends_trans, spends_up}
 use Rattle.ae_lower.proofs.Delaying.{nets_grow}
-use Rattle.ae_lower.proofs.NodeLaw.{item_grows, many_words}
+use Rattle.ae_lower.proofs.NodeLaw.{item_grows}
 use Rattle.ae_lower.proofs.BodyLaw.{AreLanes, more_lanes, no_lanes}
 use Rattle.ae_lower.proofs.Costing.{input_arrival, sums_more}
+use Rattle.ae_flow.proofs.Flowing.{many_words}
 
 -- the first nodes of an instance are lowered
 pub record AreLowered (instances : List StFuncTree) (k at rst : ℕ) (s : StFuncTree) (ins : List (List NetId)) (old new : Circuit) (j : ℕ)

@@ -7,7 +7,7 @@ use Rattle.std.proofs.lemmas.Option.{none-some, same_Some}
 use Rattle.ae_word.specs.AtomTree.{WordKind, atom_kinds}
 use Rattle.ae_seqtype.specs.SeqTree.{SeqTree, atom, seq, atoms, atom_of, kinds, repeated, in_size, parts_in_size}
 use Rattle.ae_seqtype.specs.ValueTree.{ValueTree, flat, Fit, FitKinds, Stands}
-use Rattle.ae_seqtype.proofs.Stands.{length-Fit, repeated-one}
+use Rattle.ae_seqtype.proofs.Stands.{length-Fit, repeated-one, repeated-add as repeated_add, repeated-mul as repeated_mul}
 use Rattle.ae_seqtype.proofs.Values.{flat-value_of}
 use Rattle.ae_sttype.specs.StTree.{StTree, element_atom}
 use Rattle.ae_sttype.specs.Slots.{slots}
@@ -35,6 +35,8 @@ use Rattle.ae_flow.proofs.Placed.{item_laid}
 use Rattle.ae_flow.proofs.Widths.{FitWidths, words_of}
 use Rattle.ae_lower.specs.Circuits.{results_of}
 use Rattle.ae_ports.proofs.Columns.{map_map}
+use Rattle.ae_eval.proofs.Combining.{kinds-repeated as kinds_repeated}
+use Rattle.ae_flow.proofs.MeaningProgram.{flat-stands as flat_stands, whole-sized as whole_sized}
 
 -- ---- the words of a value in a layout
 
@@ -47,20 +49,6 @@ fit_widths [] (k ∷ ks) h = absurd h
 fit_widths (x ∷ ws) [] h = absurd h
 fit_widths (x ∷ ws) (k ∷ ks) h = (h.0, fit_widths ws ks h.1)
 
-repeated_add : {A : Type 0} (n m : ℕ) (xs : List A) → repeated (n + m) xs ≡ repeated n xs ++ repeated m xs
-repeated_add zero m xs = rw (zero-add m) refl
-repeated_add (suc n) m xs = rw (suc-add n m, append_assoc) (ap (λ ys. xs ++ ys) (repeated_add n m xs))
-
-repeated_mul : {A : Type 0} (n m : ℕ) (xs : List A) → repeated (n * m) xs ≡ repeated n (repeated m xs)
-repeated_mul zero m xs = rw (zero-mul m) refl
-repeated_mul (suc n) m xs =
-    let sum : suc n * m ≡ m + n * m = omega arith in
-    rw (sum, repeated_add m (n * m) xs, repeated_mul n m xs) refl
-
-kinds_repeated : (t : SeqTree) → kinds t ≡ repeated (atoms t) (atom_kinds (atom_of t))
-kinds_repeated (atom a) = sym (repeated-one (atom_kinds a))
-kinds_repeated (seq n t) = ap (λ (ks : List WordKind). repeated n ks) (kinds_repeated t) ∙ sym (repeated_mul n (atoms t) (atom_kinds (atom_of t)))
-
 widths_repeated : (n : ℕ) (ks : List WordKind) → widths_of (repeated n ks) ≡ repeated n (widths_of ks)
 widths_repeated zero ks = refl
 widths_repeated (suc n) ks = map-append (λ (k : WordKind). k.width) ks (repeated n ks) ∙ ap (λ ws. widths_of ks ++ ws) (widths_repeated n ks)
@@ -72,9 +60,6 @@ words_fit t s ws l h =
     ap widths_of (kinds_repeated t) ∙ widths_repeated (atoms t) (atom_kinds (atom_of t)) ∙ ap (λ a. repeated (atoms t) (widths_of (atom_kinds a))) (sym l.atom)
     ∙ ap (λ k. repeated k (widths_of (atom_kinds (element_atom s)))) many in
     words_of (stream_of s) ws (subst (FitWidths ws) own (fit_widths ws (kinds t) h))
-
-flat_stands : (t : SeqTree) (ws : List ℕ) (v : ValueTree) → Stands t ws v → flat v ≡ ws
-flat_stands t ws v h = ap flat (sym h.value) ∙ flat-value_of t ws (length-Fit t ws h.fits)
 
 -- the words of values of these types fit their layouts
 pub all_words : (ts : List SeqTree) (ss : List StTree) (vs : List ValueTree) → AllLaidOut ts ss → AreValues ts vs → AllAreWords (streams_of ss) (map flat vs)
@@ -112,9 +97,6 @@ laid_all clocks (t ∷ ts) (x ∷ ss) h sized =
     let a : lay_of t clocks ≡ Some x = cc in
     let rest : map (λ u. lay_of u clocks) ts ≡ map (λ (y : StTree). Some y) ss = cc in
     (lays-out t clocks x (sized 0 t refl) a, laid_all clocks ts ss rest (λ i u e. sized (suc i) u e))
-
-whole_sized : (t : SeqTree) → IsTrue (in_size t) → IsTrue (parts_in_size t)
-whole_sized t h = grind (arith, nat_tests)
 
 module _ (p : ProgramTree) (keys : Keys) (s : StFuncTree) (typed : IsTyped p) (h : IsInstance p keys s) (last : s.func ≡ main_of p) where
   known : slice_get p.funcs (main_of p) ≡ Some h.of

@@ -4,14 +4,7 @@ use Rattle.std.proofs.lemmas.Bool.{cases_lt}
 use Rattle.ae_ops.specs.Folds.{log_up as levels_up}
 use Rattle.ae_fold.proofs.LogUp.{log_up_is}
 use Rattle.ae_delay.specs.OwnCosts.{least_power, log_up, where_many}
-
-power_next : (n l k : ℕ) → 2 ^ l < n → least_power n l (suc k) ≡ least_power n (l + 1) k
-unfolding least_power
-power_next n l k h = (let t : nat_le n (2 ^ l) ≡ false = search (arith) in rw t refl)
-
-power_found : (n l k : ℕ) → n ≤ 2 ^ l → least_power n l (suc k) ≡ l
-unfolding least_power
-power_found n l k h = (let t : nat_le n (2 ^ l) ≡ true = search (arith) in rw t refl)
+use Rattle.ae_delay.proofs.Owned.{power_next, power_found}
 
 power_last : (n l : ℕ) → least_power n l zero ≡ l
 unfolding least_power

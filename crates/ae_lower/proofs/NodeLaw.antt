@@ -29,14 +29,10 @@ use Rattle.ae_lower.specs.Delaying.{AreDelayed}
 use Rattle.ae_lower.specs.Lowering.{AreChosen, AreItems, IsItem, item_part}
 use Rattle.ae_lower.proofs.Delaying.{nets_grow}
 use Rattle.ae_lower.proofs.Following.{delayed, followed}
+use Rattle.ae_flow.proofs.Flowing.{many_words, node_layout}
+use Rattle.ae_fold.proofs.Blocks.{slot_in}
 
 -- ---- slots
-
-pub slot_in : (t : StTree) (a : ℕ) (s : Slot) → IsInSize t → slice_get (slots t) a ≡ Some s → (s.clock < time t) × (s.lane < lanes t)
-slot_in t a s size found =
-    let la : a < st_atoms t = omega (arith, slice_get_within (slots t) a s found, length-slots t) in
-    let same : slot_of t a ≡ s = get_or_from_slice_get (slots t) a s (slot_at 0 0) found in
-    rw same at (slot_below t size.lengths a la)
 
 pub within_budget : (budget : ℕ) (t : StTree) → IsFilling budget t → IsWithin budget (stream_of t)
 within_budget budget t h = record { clocks = λ e w at. rw h.time at ((slot_in t e w h.size at).0) }
@@ -123,16 +119,6 @@ all_words known s vs fit [] below = tt
 all_words known s vs fit (i ∷ is) below = (fit i (below 0 i refl), all_words known s vs fit is (λ r k f. below (suc r) k f))
 
 -- ---- words of items
-
-pub many_words : (ss : List StTree) (vs : List (List ℕ)) → AllAreWords (streams_of ss) vs → length vs ≡ length ss
-many_words [] [] h = refl
-many_words [] (v ∷ vs) h = absurd h
-many_words (s ∷ ss) [] h = absurd h
-many_words (s ∷ ss) (v ∷ vs) h = omega (arith, many_words ss vs h.1)
-
-pub node_layout : (s : StFuncTree) (j : ℕ) (n : StNodeTree) → slice_get s.nodes j ≡ Some n → item_layout (item_layouts s) (length s.ins + j) ≡ n.type
-node_layout s j n at = get_or_from_slice_get (item_layouts s) (length s.ins + j) n.type (sseq 0 (atom (unsigned_word 1)))
-    (get_right s.ins (node_layouts s.nodes) j ∙ (slice_get-map (λ (x : StNodeTree). x.type) s.nodes j ∙ ap (option_map (λ (x : StNodeTree). x.type)) at))
 
 same_reads : (xs ys : List (List ℕ)) (chosen : List ℕ) → ((i : ℕ) (y : List ℕ) → slice_get xs i ≡ Some y → slice_get ys i ≡ Some y)
     → ((r i : ℕ) → slice_get chosen r ≡ Some i → i < length xs) → map (words_at xs) chosen ≡ map (words_at ys) chosen

@@ -25,8 +25,10 @@ use Rattle.ae_flow.proofs.Widths.{drop_repeated}
 use Rattle.ae_ports.specs.Ports.{SizedPort, lane_ports, outlet_port, output_ports, stream_ports, word_ports}
 use Rattle.ae_lower.specs.Circuits.{item_stream}
 use Rattle.ae_lower.specs.PortNets.{AddsOutputs, net_widths}
-use Rattle.ae_lower.proofs.Inputs.{ports_from_push, sized_port, widths_long, word_ports_push}
+use Rattle.ae_lower.proofs.Inputs.{ports_from_push, sized_port, word_ports_push}
 use Rattle.ae_lower.proofs.Wiring.{get_stretch, stretch_long}
+use Rattle.ae_fold.proofs.Planning.{columns_small as columns_few}
+use Rattle.ae_ports.proofs.Columns.{element_columns as widths_long}
 
 -- ---- outputs that are added
 
@@ -180,11 +182,6 @@ results_more {X} a b c f chosen bundles r i nets found has was one =
     ap (λ (ns : List NetId). take r bundles ++ ns ∷ []) (get_or_from_slice_get bundles r nets nets has))
     ∙ (flat_map-append (λ (b : List NetId). b) (take r bundles) (nets ∷ []) ∙ ap (λ ns. all_nets (take r bundles) ++ ns) (append-nil nets)) in
     rw (ports, more) (outputs_trans was one)
-
-pub columns_few : (t : StTree) → IsInSize t → lanes t * element_words t ≤ 16384
-columns_few t size =
-    let all : lanes t * element_words t ≤ st_atoms t * element_words t = mul-le-mul_right (element_words t) (lanes-le-atoms t size.lengths) in
-    omega (arith, size.in_words)
 
 -- the layout of a result, and how many nets it has
 pub result_sized : (s : StFuncTree) (t : StTree) (r i : ℕ) → ((k : ℕ) × IsSoundFunc k s) → slice_get s.results r ≡ Some i → t ≡ item_layout (item_layouts s) i

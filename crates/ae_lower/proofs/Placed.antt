@@ -39,6 +39,7 @@ use Rattle.ae_lower.proofs.Growing.{by_trans, spends_more, spends_up}
 use Rattle.ae_lower.proofs.NodeLaw.{items_wait, node_item}
 use Rattle.ae_lower.proofs.BodyLaw.{body_node, columns_long, result_layout}
 use Rattle.ae_lower.proofs.Costing.{NodeFacts, arrivals_long, callee_costs, costs_are, delays_cost, node_facts, sums_most, timings_long, wait_at}
+use Rattle.ae_retime.proofs.Lists.{layouts_long as items_many}
 
 abbrev none_layout : StTree
 none_layout = sseq 0 (atom (unsigned_word 1))
@@ -65,9 +66,6 @@ item_fills : (k : ℕ) (s : StFuncTree) → IsSoundFunc k s → AreFilling s.bud
 item_fills k s h i x found =
     let is : item_layout (item_layouts s) i ≡ x = get_or_from_slice_get (item_layouts s) i x none_layout found in
     subst (λ (z : StTree). IsFilling s.budget z) is (all_items k s h i (slice_get_within (item_layouts s) i x found))
-
-pub items_many : (s : StFuncTree) → length (item_layouts s) ≡ length s.ins + length s.nodes
-items_many s = omega (arith, length-append s.ins (node_layouts s.nodes), length-map s.nodes (λ (x : StNodeTree). x.type))
 
 pub arrivals_told : (instances : List StFuncTree) (told : List (List ℕ)) (k at : ℕ) (s : StFuncTree) → IsTimed instances told
     → ((x : StFuncTree) × IsLight instances k at x) → slice_get instances k ≡ Some s → slice_get told k ≡ Some (arrivals_in instances k s)

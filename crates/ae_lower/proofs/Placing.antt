@@ -14,6 +14,7 @@ use Rattle.ae_ports.specs.Ports.{streams_of}
 use Rattle.ae_lower.specs.Parts.{plain_part}
 use Rattle.ae_lower.specs.Growth.{Adds, GrowsBy, IsBuilt}
 use Rattle.ae_lower.specs.Nodes.{IsNodePart, IsOpPart, arguments_of, node_part, plain_costs}
+use Rattle.ae_lower.proofs.Growing.{if_ok_more as if_made}
 
 -- parts that agree on words of their inputs keep the same law
 pub law_as : (clocks a t d : ℕ) (ins : List Stream) (out : Stream) (means : List (List ℕ) → List ℕ) (p : Part) (waves : List Wave) (wave : Wave)
@@ -25,10 +26,6 @@ law_as clocks a t d ins out means p waves wave et ed ei eo same law = record {
       let made = law.makes b vs (rw (et, ed) ends) given (rw (et, ei) holds) in
       rw (← et, ← ed, ← eo, ← same vs given) made;
 }
-
-pub if_made : {X E : Type 0} (r : Result X E) (P Q : X → Type 0) → ((x : X) → P x → Q x) → IfOk r P → IfOk r Q
-if_made (Ok x) P Q f p = f x p
-if_made (Err e) P Q f p = tt
 
 both_ok : {X E : Type 0} (r : Result X E) (P Q R : X → Type 0) → ((x : X) → P x → Q x → R x) → IfOk r P → IfOk r Q → IfOk r R
 both_ok (Ok x) P Q R f p q = f x p q

@@ -29,7 +29,7 @@ use Rattle.ae_rewrite.specs.Blocks.{input_wave, outlet_net, output_wave}
 use Rattle.ae_lower.specs.PortNets.{bundles_from, nets_from}
 use Rattle.ae_lower.proofs.Inputs.{length-nets_from}
 use Rattle.ae_lower.proofs.Outputs.{all_nets}
-use Rattle.ae_lower.proofs.Wiring.{in_row}
+use Rattle.ae_lower.proofs.Spreading.{in_row}
 
 -- ---- waves that agree on so many columns
 

@@ -21,15 +21,8 @@ use Rattle.ae_flow.specs.Flow.{layout_words, pieces}
 use Rattle.ae_flow.specs.Fitted.{elements_stream}
 use Rattle.ae_ports.specs.Ports.{streams_of}
 use Rattle.ae_lower.specs.Parts.{plain_part, from_column, lane_waves, mapped_by, AllTake}
-use Rattle.ae_ports.proofs.Columns.{joined_word}
-
--- the widths of an element's words are as many as its words
-kinds_long : (a : AtomTree) → length (atom_kinds a) ≡ atom_words a
-kinds_long (word k) = refl
-kinds_long (pair a b) = omega (arith, length-append (atom_kinds a) (atom_kinds b), kinds_long a, kinds_long b)
-
-pub widths_long : (s : StTree) → length (stream_of s).widths ≡ element_words s
-widths_long s = length-map (atom_kinds (element_atom s)) (λ (k : WordKind). k.width) ∙ kinds_long (element_atom s)
+use Rattle.ae_ports.proofs.Columns.{joined_word, element_columns as widths_long}
+use Rattle.ae_word.proofs.Sizes.{length-atom_kinds as kinds_long}
 
 -- ---- words of pieces
 

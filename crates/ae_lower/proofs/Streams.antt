@@ -10,6 +10,8 @@ use Rattle.ae_sttype.specs.Slots.{slots, copies, moved}
 use Rattle.ae_ops.specs.Blocks.{Stream, stream_of}
 use Rattle.ae_delay.specs.OwnCosts.{inner_time}
 use Rattle.ae_flow.specs.Fitted.{IsArranged, IsOneOf, elements_stream}
+use Rattle.ae_gather.proofs.GatherLaw.{length_widths}
+use Rattle.ae_flow.proofs.Streams.{one_copy as copies_one}
 
 moved_none : (c l : ℕ) (ws : List Slot) → c ≡ 0 → l ≡ 0 → map (moved c l) ws ≡ ws
 moved_none c l [] ec el = refl
@@ -17,10 +19,6 @@ moved_none c l (w ∷ ws) ec el =
     let clock : c + w.clock ≡ w.clock = omega (arith, ec) in
     let lane : l + w.lane ≡ w.lane = omega (arith, el) in
     rw (clock, lane, moved_none c l ws ec el) refl
-
--- one copy
-copies_one : (c l : ℕ) (ws : List Slot) → copies 1 c l ws ≡ ws
-copies_one c l ws = (let a : 0 * c ≡ 0 = omega arith in let b : 0 * l ≡ 0 = omega arith in moved_none (0 * c) (0 * l) ws a b)
 
 one_lane : (n : ℕ) → 1 * n ≡ n
 one_lane n = omega arith
@@ -145,6 +143,3 @@ cut_product a b k w some e =
 
 abbrev pub widths_of : StTree → List ℕ
 widths_of s = map (λ (k : WordKind). k.width) (atom_kinds (element_atom s))
-
-pub length_widths : (s : StTree) → length (widths_of s) ≡ element_words s
-length_widths s = length-map (atom_kinds (element_atom s)) (λ (k : WordKind). k.width) ∙ length-atom_kinds (element_atom s)

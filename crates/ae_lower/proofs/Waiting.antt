@@ -14,7 +14,7 @@ use Rattle.ae_rewrite.specs.StProgramTree.{StNodeTree, StFuncTree}
 use Rattle.ae_rewrite.specs.Scheduled.{node_layouts}
 use Rattle.ae_rewrite.specs.Sound.{IsSound, item_layout, item_layouts}
 use Rattle.ae_delay.specs.Costs.{NodeTiming, Use, all_uses, chain_mems, chain_of}
-use Rattle.ae_delay.proofs.Instances.{all_items}
+use Rattle.ae_delay.proofs.Instances.{all_items, sum_same}
 use Rattle.ae_retime.specs.Slacks.{item_chains, item_uses, joint_uses}
 use Rattle.ae_lower.specs.Lowering.{arrivals_in, timings_in}
 use Rattle.ae_lower.proofs.Costing.{node_facts, timings_long}
@@ -50,14 +50,6 @@ uses_are instances k s sound func =
           length-map (take j s.nodes) (λ (x : StNodeTree). x.type),
           length-take-le j s.nodes (omega arith),
         )
-
-sum_same : (f g : ℕ → ℕ) (n : ℕ) → ((i : ℕ) → i < n → f i ≡ g i) → sum_by f (range_with_len 0 n) ≡ sum_by g (range_with_len 0 n)
-sum_same f g zero h = refl
-sum_same f g (suc n) h =
-    let s : n + 1 ≡ suc n = omega arith in
-    let a : sum_by f (range_with_len 0 (suc n)) ≡ sum_by f (range_with_len 0 n) + f n = rw s at (sum_more f n) in
-    let b : sum_by g (range_with_len 0 (suc n)) ≡ sum_by g (range_with_len 0 n) + g n = rw s at (sum_more g n) in
-    omega (arith, a, b, h n (omega arith), sum_same f g n (λ i l. h i (omega arith)))
 
 -- the memories of lines as long as the longest wait of each item
 abbrev pub mems_by : (layouts : List StTree) (chains : List ℕ) → ℕ → ℕ

@@ -17,13 +17,13 @@ use Rattle.ae_moves.specs.Origins.{width_at}
 use Rattle.ae_eval.specs.Stack.{paired}
 use Rattle.ae_ops.specs.Waves.{AreNets, net_word, wave_of}
 use Rattle.ae_ops.specs.Blocks.{Stream, KeepsLaw, stream_of, stream_widths}
-use Rattle.ae_gather.proofs.GatherLaw.{length_stream, widths_at}
+use Rattle.ae_gather.proofs.GatherLaw.{length_stream, widths_at, length_widths}
 use Rattle.ae_gather.proofs.OneList.{get_right}
 use Rattle.ae_flow.specs.Flow.{parts, words_at}
 use Rattle.ae_flow.specs.Fitted.{FitsFirst, FitsPair, FitsSecond}
 use Rattle.ae_lower.specs.Parts.{plain_part}
 use Rattle.ae_lower.specs.Wiring.{ArePairs, AreParts}
-use Rattle.ae_lower.proofs.Streams.{length_widths, widths_of}
+use Rattle.ae_lower.proofs.Streams.{widths_of}
 use Rattle.ae_lower.proofs.WireLaws.{AreOnLanes, ArePaired, IsPartOf, pairs_law, parts_law}
 
 abbrev kinds_of : StTree → List WordKind

@@ -7,6 +7,7 @@ use Rattle.std.proofs.lemmas.List.{length-take-le}
 use Rattle.std.proofs.lemmas.Bool.{cases_lt}
 use Rattle.ae_netlist.specs.declared.cell.NetId.{NetId}
 use Rattle.ae_lower.specs.Wiring.{ArePairs, AreParts}
+use Rattle.ae_lower.proofs.Spreading.{in_row}
 
 pub get_before : (xs ys : List NetId) (i : ℕ) → i < length xs → slice_get (xs ++ ys) i ≡ slice_get xs i
 get_before [] ys i h = absurd (omega arith)
@@ -31,9 +32,6 @@ pub stretch_long : (xs : List NetId) (k m : ℕ) → k + m ≤ length xs → len
 stretch_long xs zero m h = length-take-le m xs (omega arith)
 stretch_long [] (suc k) m h = absurd (omega arith)
 stretch_long (x ∷ xs) (suc k) m h = stretch_long xs k m (omega arith)
-
-pub in_row : (a k r n : ℕ) → a < n → r < k → a * k + r < n * k
-in_row a k r n p h = omega (arith, mul-add-lt a k r n p h)
 
 pub parts_none : (nets : List NetId) (k o l : ℕ) → AreParts nets 0 k o l []
 parts_none nets k o l = record { long = omega arith; each = λ e j p h. absurd (omega arith) }

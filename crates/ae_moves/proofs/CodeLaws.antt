@@ -13,14 +13,14 @@ use Rattle.ae_sttype.specs.StTree.{StTree, atom, sseq, lanes, st_atoms, st_tree,
 use Rattle.ae_sttype.specs.Slots.{slots}
 use Rattle.ae_sttype.specs.Size.{IsInSize}
 use Rattle.ae_sttype.specs.Moves.{OriginTree, SourceTree, TripTree, place, from_input, fixed, columns_of, column_number, first_column, latency_of_trips, lead_from, slot_number, source_of, trip_number, trips_of}
-use Rattle.ae_sttype.proofs.Places.{slot_below, slot_of}
+use Rattle.ae_sttype.proofs.Places.{slot_below, slot_of, row_below as in_row}
 use Rattle.ae_word.specs.AtomTree.{unsigned_word}
 use Rattle.ae_moves.specs.declared.trip.Origin.{Origin}
 use Rattle.ae_moves.specs.declared.trip.Trip.{Trip}
 use Rattle.ae_moves.specs.Trees.{origin_tree, source_tree, trip_tree}
 use Rattle.ae_moves.specs.Origins.{HasOrigin, IsMove, width_at}
 use Rattle.ae_moves.proofs.Lists.{get_mapped}
-use Rattle.ae_moves.proofs.Words.{first_below, in_row, origin_at, word_below, words_pos}
+use Rattle.ae_moves.proofs.Words.{first_below, origin_at, word_below, words_pos}
 
 -- the layout of an input by its number
 pub mapped_is : (ins : List StType) (i : ℕ) (s : StTree) (r : StType) → slice_get (map st_tree ins) i ≡ Some s → slice_get ins i ≡ Some r → st_tree r ≡ s

@@ -14,9 +14,8 @@ use Rattle.ae_clocked.specs.Delays.{IsTap, greatest_of, line_cells}
 use Rattle.ae_clocked.specs.Rings.{rings}
 use Rattle.ae_clocked.specs.Phases.{Kept, KeepsCounters}
 use Rattle.ae_ops.specs.Waves.{AreLate, AreNets, HaveOwnWidths, wave_of}
-
-tap_grows : {a b : List SizedCell} {rst w x d y : ℕ} → Extends a b → IsTap a rst w x d y → IsTap b rst w x d y
-tap_grows g h = record { net = net_later g h.net; words = λ all e run r. h.words all (extends_trans g e) run r }
+use Rattle.ae_clocked.proofs.InRow.{keeps_trans}
+use Rattle.ae_clocked.proofs.Making.{tap_grows}
 
 -- so many nets tap those at their places
 pub record AreTapping (old new : List SizedCell) (rst d k : ℕ) (nets late : List NetId) : Type 0 where
@@ -70,9 +69,6 @@ nets_of old new rst d nets late h widths own = record {
       let wide : width_of old (get_or nets q (record { 0 = 0 })).0 ≡ width = net_width (own.each q width _ fw fx) in
       rw wide at (h.each q _ y fx fy).net;
 }
-
-pub keeps_trans : {a b c : Kept} → KeepsCounters a b → KeepsCounters b c → KeepsCounters a c
-keeps_trans p q = record { rst = q.rst ∙ p.rst; counters = λ phase net h. q.counters phase net (p.counters phase net h) }
 
 -- the cells of a line with one tap
 pub line_one : (d : ℕ) → line_cells (d ∷ []) ≤ 8 * d + 4

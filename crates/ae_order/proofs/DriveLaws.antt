@@ -14,12 +14,12 @@ use Rattle.ae_order.specs.declared.sort.OrderFault.TheVariants.{Loop, Memory}
 use Rattle.ae_runs.specs.Named.{IsNamed, place_of}
 use Rattle.ae_order.specs.Sound.{IsSound}
 use Rattle.ae_order.specs.Drives.{AreDriven, AreSoundValues, FeedsAt, IsFlat, IsLoopFault, IsWireOrder, noted, places_in, values_of, with_drive}
-use Rattle.ae_order.proofs.GraphGets.{get_set_other, get_set_same}
 use Rattle.ae_order.proofs.GraphWalks.{none_loops}
 use Rattle.ae_judge.proofs.Members.{among_from, among_map, among_unmap, among_unflat, some_or_not}
 use Rattle.ae_runs.proofs.Declared.{named_net, driven_net, equation_once, equation_readable}
 use Rattle.ae_order.proofs.FlatLaws.{needs_read, read_needs, all_targets}
 use Rattle.ae_order.proofs.SoundOf.{equation_sound, named_of, place_is}
+use Rattle.ae_netlist.proofs.Gets.{get_set_other, get_set_same}
 
 pub noted_long : (ns : List NetTree) (vs : List (Option ExprTree)) (ds : List DriveTree) → length (noted ns vs ds) ≡ length vs
 noted_long ns vs [] = refl

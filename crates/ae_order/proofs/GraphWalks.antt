@@ -9,7 +9,7 @@ use Rattle.ae_order.specs.declared.sort.Mark.TheVariants.{New, At, Done}
 use Rattle.ae_order.specs.Walks.{Begins, IsLooked, IsWalk}
 use Rattle.ae_order.proofs.GraphLeft.{left_next}
 use Rattle.ae_order.specs.Walks.{Steps}
-use Rattle.ae_order.proofs.GraphGets.{get_left, get_pushed, get_push_cases, get_set_other, get_set_same}
+use Rattle.ae_netlist.proofs.Gets.{get_left, get_pushed, get_push_cases, get_set_other, get_set_same}
 
 -- what is at a place of a list that was written at a place
 pub other_or_same : {X : Type 0} (xs : List X) (i n : ℕ) (y x z : X) → slice_get xs i ≡ Some z → slice_get (set xs i y) n ≡ Some x

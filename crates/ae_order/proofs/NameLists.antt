@@ -7,9 +7,9 @@ use Rattle.ae_vread.specs.Reading.{concat_of, concat_behind}
 use Rattle.ae_judge.specs.Names.{names_in, drives_of, equations}
 use Rattle.ae_runs.specs.Named.{place_of}
 use Rattle.ae_order.specs.Drives.{IsFlat, noted, places_in, read_before, with_drive}
-use Rattle.ae_order.proofs.GraphGets.{get_left, get_pushed}
 use Rattle.ae_order.proofs.Turns.{take_whole}
 use Rattle.ae_order.proofs.DriveLaws.{noted_append}
+use Rattle.ae_netlist.proofs.Gets.{get_left, get_pushed}
 
 map_join : {X Y : Type 0} (f : X → Y) (xs ys : List X) → map f (xs ++ ys) ≡ map f xs ++ map f ys
 map_join f [] ys = refl

@@ -13,10 +13,10 @@ use Rattle.ae_fields.specs.Number.{plain_of}
 use Rattle.ae_fields.specs.Scopes.{place}
 use Rattle.ae_fields.specs.TypeForm.{type_of}
 use Rattle.ae_fields.specs.Words.{first_of, found, folding_words, other_words, plain_words, bare_op, numbered_op, below, func_at, func_op, fold_op, cast_of, cast_op, headed_op, words_after, const_from, two_numbers, partition_of, partition_from, with_arguments, headed_from, headed_of, operator_from}
-use Rattle.ae_fields.proofs.Bools.{and-first, and-second}
 use Rattle.ae_fields.proofs.OptionLemmas.{bind-some, where-some, map-some, some-is}
-use Rattle.ae_fields.proofs.PlainLemmas.{and-both}
 use Rattle.ae_parse.proofs.TypeSound.{plain-within, within-true, spelled-so}
+use Rattle.ae_seq.proofs.Judging.{left as and-first, right as and-second}
+use Rattle.ae_fields.proofs.PartLemmas.{and-both}
 
 -- each entry of a table passes a test
 found-all : {A : Type 0} (test : A → Bool) (w : List ℕ) (es : List (List ℕ × A)) (x : A) → list_all (λ (e : List ℕ × A). test e.1) es ≡ true
@@ -32,7 +32,7 @@ if-elim : {A P : Type 0} (b : Bool) (o p : Option A) (y : A) → (if b then o el
 if-elim true o p y h f g = f h
 if-elim false o p y h f g = g h
 
-first-elim : {A P : Type 0} (o p : Option A) (y : A) → first_of o p ≡ Some y → (o ≡ Some y → P) → (p ≡ Some y → P) → P
+pub first-elim : {A P : Type 0} (o p : Option A) (y : A) → first_of o p ≡ Some y → (o ≡ Some y → P) → (p ≡ Some y → P) → P
 first-elim None p y h f g = g h
 first-elim (Some x) p y h f g = f h
 

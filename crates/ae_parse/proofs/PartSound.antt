@@ -7,11 +7,11 @@ use Rattle.ae_fields.specs.Cut.{pieces}
 use Rattle.ae_fields.specs.Grammar.{Head, Part, two_of, param_from, no_params, with_param, params_after, params_of, places_after}
 use Rattle.ae_fields.specs.Scopes.{place, is_known}
 use Rattle.ae_fields.specs.TypeForm.{type_of}
-use Rattle.ae_fields.proofs.Bools.{and-first, and-second}
-use Rattle.ae_fields.proofs.NameForms.{known-agree, distinct-push, names-push, place-below}
+use Rattle.ae_fields.proofs.NameForms.{known-agree, distinct-push, names-push, place-below, not-so}
 use Rattle.ae_fields.proofs.OptionLemmas.{bind-some, where-some, some-is}
-use Rattle.ae_fields.proofs.PlainLemmas.{and-both}
 use Rattle.ae_parse.proofs.TypeSound.{spelled-so}
+use Rattle.ae_seq.proofs.Judging.{left as and-first, right as and-second}
+use Rattle.ae_fields.proofs.PartLemmas.{and-both}
 
 below-push : (n : ℕ) (ks : List ℕ) (k : ℕ) → all_below n ks ≡ true → k < n → all_below n (ks ++ k ∷ []) ≡ true
 below-push n [] k h l = and-both _ _ (lt-ltb k n l) refl
@@ -41,10 +41,6 @@ params-push version (q ∷ ps) p h s = and-both _ _ (and-first _ _ h) (params-pu
 param-names-push : (ps : List ParamTree) (p : ParamTree) → param_names (ps ++ p ∷ []) ≡ param_names ps ++ p.name ∷ []
 param-names-push [] p = refl
 param-names-push (q ∷ ps) p = ap (λ ns. q.name ∷ ns) (param-names-push ps p)
-
-not-so : (b : Bool) → not b ≡ true → b ≡ false
-not-so true h = absurd cc
-not-so false h = refl
 
 one-param : (version : ℕ) (h g : Head) (p : ParamTree) (f : List ℕ) → param_from version f ≡ Some p → with_param h p ≡ Some g → HeadSound version h
     → HeadSound version g

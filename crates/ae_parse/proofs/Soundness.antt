@@ -5,13 +5,13 @@ use Rattle.ae_seq.specs.ProgramTree.{FuncTree, ProgramTree}
 use Rattle.ae_seq.specs.Formed.{all_below, all_distinct, all_names, formed, formed_func, formed_funcs, func_lines, func_names, is_name, item_count, most_results, node_names, param_names, within, formed_params, formed_nodes}
 use Rattle.ae_fields.specs.Grammar.{Known, Part, State, program, start, step, after_line, whole, at_end, of_version, ended}
 use Rattle.ae_fields.specs.Cut.{fields}
-use Rattle.ae_fields.proofs.Bools.{and-first, and-second}
 use Rattle.ae_fields.proofs.NameForms.{known-agree, distinct-push, names-front, names-back, distinct-front, distinct-back, distinct-apart}
 use Rattle.ae_parse.proofs.OpSound.{operator-sound}
 use Rattle.ae_fields.proofs.OptionLemmas.{where-some, some-is}
 use Rattle.ae_parse.proofs.PartSound.{PartSound, begun-sound, node-sound, few-params-sound, places-below, items-count}
-use Rattle.ae_fields.proofs.PlainLemmas.{and-both}
 use Rattle.ae_fields.proofs.StepCases.{Placed, began, noded, finished, Stepped, silent, versioned, first, later, stepped, begun_state, node_state}
+use Rattle.ae_seq.proofs.Judging.{left as and-first, right as and-second}
+use Rattle.ae_fields.proofs.PartLemmas.{and-both}
 
 -- ---- functions
 

@@ -10,9 +10,9 @@ use Rattle.ae_seq.specs.Formed.{is_unsigned, is_spelled, within}
 use Rattle.ae_fields.specs.Number.{is_plain, plain_of}
 use Rattle.ae_seq.specs.Typing.{where_ok}
 use Rattle.ae_fields.specs.TypeForm.{digits_of, after_digits, past, letter_kind, word_from, pair_from, atom_from, alone, atom_type_of, length_from, sequence_from, type_from, type_of}
-use Rattle.ae_fields.proofs.Bools.{and-first, and-second}
 use Rattle.ae_fields.proofs.OptionLemmas.{bind-some, where-some, some-is}
-use Rattle.ae_fields.proofs.PlainLemmas.{and-both}
+use Rattle.ae_seq.proofs.Judging.{left as and-first, right as and-second}
+use Rattle.ae_fields.proofs.PartLemmas.{and-both}
 
 pub record Within (low high n : ℕ) : Type 0 where
   pub low_is : low ≤ n

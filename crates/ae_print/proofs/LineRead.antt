@@ -13,13 +13,13 @@ use Rattle.ae_print.specs.Printed.{name_at, op_fields, node_fields, param_field,
 use Rattle.ae_fields.specs.Scopes.{place, is_known}
 use Rattle.ae_fields.specs.TypeForm.{type_of}
 use Rattle.ae_fields.specs.Words.{below}
-use Rattle.ae_fields.proofs.Bools.{and-first, and-second}
 use Rattle.ae_fields.proofs.NameForms.{known-agree, place-at, distinct-new, distinct-front, same-agree}
 use Rattle.ae_print.proofs.OpRead.{operator_on, FuncsFound, op-read}
 use Rattle.ae_print.proofs.SolidForms.{param-cut}
 use Rattle.ae_fields.proofs.StepCases.{node_state}
 use Rattle.ae_print.proofs.TextForms.{reading_of}
 use Rattle.ae_print.proofs.TypeRead.{type-read}
+use Rattle.ae_seq.proofs.Judging.{left as and-first, right as and-second}
 
 pub append-none : {A : Type 0} (xs : List A) → xs ++ [] ≡ xs
 append-none [] = refl

@@ -16,9 +16,10 @@ use Rattle.ae_fields.specs.Number.{plain_of}
 use Rattle.ae_seq.specs.Typing.{where_ok, ◌>>=◌}
 use Rattle.ae_print.specs.Printed.{name_at, word_fields, op_fields, words_fit}
 use Rattle.ae_fields.specs.Words.{first_of, bare_op, numbered_op, func_at, func_op, fold_op, cast_of, cast_op, headed_op, words_after, const_of, const_from, two_numbers, partition_from, with_arguments, headed_from, operator_from}
-use Rattle.ae_fields.proofs.Bools.{and-first, and-second}
-use Rattle.ae_fields.proofs.PlainLemmas.{and-both, number-of-decimal}
+use Rattle.ae_fields.proofs.PlainLemmas.{number-of-decimal}
 use Rattle.ae_print.proofs.TypeRead.{plain-read, type-read}
+use Rattle.ae_seq.proofs.Judging.{left as and-first, right as and-second}
+use Rattle.ae_fields.proofs.PartLemmas.{and-both}
 
 -- the operator on fields that begin with its word
 abbrev pub operator_on : (version n : ℕ) → List (List ℕ) → List (List ℕ) → Option (OpTree × List (List ℕ))

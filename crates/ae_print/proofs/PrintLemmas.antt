@@ -9,10 +9,11 @@ use Rattle.ae_seq.specs.declared.program.Node.{Node}
 use Rattle.ae_seq.specs.Formed.{all_below, formed_func, formed_funcs, formed_nodes, has_arguments, is_line, most_results, func_names, node_names, param_names}
 use Rattle.ae_seq.specs.Trees.{func_trees, node_trees, param_trees}
 use Rattle.ae_print.specs.Printed.{name_at, spaced, joined, text_of, func_statements, funcs_statements, nodes_fit, funcs_fit}
-use Rattle.ae_fields.proofs.Bools.{and-first, and-second}
-use Rattle.ae_fields.proofs.PlainLemmas.{and-both}
 use Rattle.ae_print.proofs.ProgramRead.{func-fits}
 use Rattle.std.proofs.lemmas.Grind.{common_steps}
+use Rattle.ae_print.proofs.LineRead.{append-none, length-map as length-trees}
+use Rattle.ae_seq.proofs.Judging.{left as and-first, right as and-second}
+use Rattle.ae_fields.proofs.PartLemmas.{and-both}
 
 twice-at : {A B : Type 0} (f : A → B) (g : B → List ℕ) (xs : List A) (k : ℕ) (d : A) → k < length xs → get_or (map g (map f xs)) k [] ≡ g (f (get_or xs k d))
 twice-at f g [] k d h = absurd (omega arith)
@@ -83,10 +84,6 @@ pub record NextFunc (version : ℕ) (fs : List Func) (i : ℕ) (d : Func) : Type
   pub below : all_below (length d.params.items + length d.nodes.items) d.results.items ≡ true
   pub later : formed_funcs version (i + 1) (func_trees (drop (i + 1) fs)) ≡ true
 
-length-trees : {A B : Type 0} (f : A → B) (xs : List A) → length (map f xs) ≡ length xs
-length-trees f [] = refl
-length-trees f (x ∷ xs) = ap (λ n. suc n) (length-trees f xs)
-
 next-of : (version i : ℕ) (fs : List Func) (x : Func) → formed_funcs version i (func_trees (x ∷ drop (i + 1) fs)) ≡ true → NextFunc version fs i x
 next-of version i fs x f =
     let fits = func-fits version i (most_results version (func_trees (drop (i + 1) fs))) (func_tree x) (and-first _ _ f) in
@@ -123,10 +120,6 @@ next-fit fs i d t h is so fit =
     ap (λ b. b && funcs_fit (func_trees (drop (i + 1) fs))) (sym fit)
     ∙ ap (λ (e : Func). nodes_fit (node_trees e.nodes.items) && funcs_fit (func_trees (drop (i + 1) fs))) is
     ∙ ap (λ ms. funcs_fit (func_trees ms)) (sym (drop_more fs i d h)) ∙ so
-
-append-none : {A : Type 0} (xs : List A) → xs ++ [] ≡ xs
-append-none [] = refl
-append-none (x ∷ xs) = ap (λ ys. x ∷ ys) (append-none xs)
 
 none-left : {A : Type 0} (xs : List A) (i : ℕ) → length xs ≤ i → drop i xs ≡ []
 none-left xs i h = grind (arith, common_steps)

@@ -7,13 +7,13 @@ use Rattle.ae_seq.specs.Formed.{all_below, all_distinct, all_names, apart, forme
 use Rattle.ae_fields.specs.Grammar.{Known, Part, Head, program, IsProgramText, no_params, params_of, few_params, begun, begin_named, begin, ended, ended_with, inside, by_part, is_version_line, of_version, by_state, whole, start}
 use Rattle.ae_seq.specs.Typing.{where_ok, ◌>>=◌}
 use Rattle.ae_print.specs.Printed.{name_at, node_fields, param_field, nodes_fit, funcs_fit, nodes_from, func_from, funcs_from, numbered, end_fields, item_names, func_statements, funcs_statements, statements, program_text}
-use Rattle.ae_fields.proofs.Bools.{and-first, and-second}
 use Rattle.ae_print.proofs.LineRead.{append-none, Extends, extends-append, places-read, funcs-found, params-read, step-later, nodes-read}
-use Rattle.ae_fields.proofs.NameForms.{known-agree, distinct-new, distinct-front}
+use Rattle.ae_fields.proofs.NameForms.{known-agree, distinct-new, distinct-front, not-so}
 use Rattle.ae_print.proofs.OpRead.{FuncsFound}
-use Rattle.ae_fields.proofs.PlainLemmas.{and-both}
 use Rattle.ae_fields.proofs.StepCases.{begun_state}
 use Rattle.ae_print.proofs.TextForms.{reading_of, text-read, stated}
+use Rattle.ae_seq.proofs.Judging.{left as and-first, right as and-second}
+use Rattle.ae_fields.proofs.PartLemmas.{and-both}
 
 -- ---- names of a formed function
 
@@ -28,10 +28,6 @@ among-append n (m ∷ ms) ns h g = by _ _ h (among-append n ms ns) g
         → (x || is_among n (ms ++ ns)) ≡ false
     by true y e rest i = absurd cc
     by false y e rest i = rest e i
-
-not-so : (b : Bool) → not b ≡ true → b ≡ false
-not-so true h = absurd cc
-not-so false h = refl
 
 distinct-append : (ms ns : List (List ℕ)) → all_distinct ms ≡ true → all_distinct ns ≡ true → apart ms ns ≡ true → all_distinct (ms ++ ns) ≡ true
 distinct-append [] ns h g a = g
@@ -148,7 +144,7 @@ func-names-push : (fs : List FuncTree) (f : FuncTree) → func_names (fs ++ f �
 func-names-push [] f = refl
 func-names-push (e ∷ fs) f = ap (λ ns. e.name ∷ ns) (func-names-push fs f)
 
-length-names : (fs : List FuncTree) → length (func_names fs) ≡ length fs
+pub length-names : (fs : List FuncTree) → length (func_names fs) ≡ length fs
 length-names [] = refl
 length-names (f ∷ fs) = ap (λ n. suc n) (length-names fs)
 

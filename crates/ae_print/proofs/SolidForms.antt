@@ -12,11 +12,12 @@ use Rattle.ae_seq.specs.Formed.{all_name_bytes, is_letter, is_name, is_name_byte
 use Rattle.ae_fields.specs.Cut.{free, pieces, put}
 use Rattle.ae_fields.specs.Grammar.{two_of}
 use Rattle.ae_fields.specs.TypeForm.{is_digit}
-use Rattle.ae_fields.proofs.Bools.{and-first, and-second}
-use Rattle.ae_fields.proofs.NameLemmas.{name-bytes}
-use Rattle.ae_fields.proofs.PlainLemmas.{and-both}
+use Rattle.ae_fields.proofs.NameLemmas.{name-bytes, or-elim}
 use Rattle.ae_print.proofs.TextForms.{inked, solid, all-weaker, all-append, not-mark}
 use Rattle.ae_print.proofs.TypeRead.{decimal-digits}
+use Rattle.ae_fields.proofs.NameForms.{not-so}
+use Rattle.ae_seq.proofs.Judging.{left as and-first, right as and-second}
+use Rattle.ae_fields.proofs.PartLemmas.{and-both}
 
 -- a byte of a name or of a type
 abbrev pub inner_byte : ℕ → Bool
@@ -38,10 +39,6 @@ digit-inner b h =
     let low = leb-true 48 b (and-first _ _ h) in
     let high = leb-true b 57 (and-second (nat_le 48 b) _ h) in
     inner-so b (omega arith) (omega arith) (λ e. omega arith)
-
-or-elim : {P : Type 0} (a b : Bool) → (a || b) ≡ true → (a ≡ true → P) → (b ≡ true → P) → P
-or-elim true b h f g = f refl
-or-elim false b h f g = g h
 
 named-inner : (b : ℕ) → is_name_byte b ≡ true → inner_byte b ≡ true
 named-inner b h =
@@ -127,10 +124,6 @@ solid-param n t h p =
 inner-free : (bs : List ℕ) → list_all inner_byte bs ≡ true → free 58 bs ≡ true
 inner-free [] h = refl
 inner-free (b ∷ bs) h = and-both _ _ (ap not (not-mark inner_byte 58 refl b (and-first _ _ h))) (inner-free bs (and-second (inner_byte b) _ h))
-
-not-so : (b : Bool) → not b ≡ true → b ≡ false
-not-so true h = absurd cc
-not-so false h = refl
 
 pieces-free : (bs : List ℕ) → free 58 bs ≡ true → pieces 58 bs ≡ bs ∷ []
 pieces-free [] h = refl

@@ -10,11 +10,11 @@ use Rattle.ae_seqtype.specs.SeqTree.{parts_in_size, depth}
 use Rattle.ae_seq.specs.ProgramTree.{OpTree, word, cast_int, pair, fst, snd, const, zip, call, each, each_two, reduce, scan, shift, up, select, partition, unpartition, ParamTree, NodeTree, FuncTree, ProgramTree}
 use Rattle.ae_seq.specs.Formed.{all_below, all_distinct, all_names, formed, formed_func, formed_funcs, formed_nodes, formed_params, func_names, has_arguments, is_line, is_name, is_spelled, item_count, line_count, most_results, node_names, param_names, within}
 use Rattle.ae_print.specs.Printed.{name_at, word_fields, op_fields, words_fit, nodes_fit, funcs_fit, node_fields, param_field, end_fields, item_names, func_statements, funcs_statements, version_statements, statements}
-use Rattle.ae_fields.proofs.Bools.{and-first, and-second}
-use Rattle.ae_fields.proofs.PlainLemmas.{and-both}
-use Rattle.ae_print.proofs.ProgramRead.{FuncFits, func-fits}
+use Rattle.ae_print.proofs.ProgramRead.{FuncFits, func-fits, length-params, length-nodes, length-names as length-funcs}
 use Rattle.ae_print.proofs.SolidForms.{solid-name, solid-decimal, solid-letter, solid-type, solid-param}
 use Rattle.ae_print.proofs.TextForms.{solid, stated, all-append}
+use Rattle.ae_seq.proofs.Judging.{left as and-first, right as and-second}
+use Rattle.ae_fields.proofs.PartLemmas.{and-both}
 
 small-solid : (bound n : ℕ) → nat_le n bound ≡ true → bound < 2 ^ 64 → solid (decimal n) ≡ true
 small-solid bound n h b = let l = leb-true n bound h in solid-decimal n (omega arith)
@@ -140,14 +140,6 @@ names-append : (ms ns : List (List ℕ)) → all_names ms ≡ true → all_names
 names-append [] ns h g = g
 names-append (m ∷ ms) ns h g = and-both _ _ (and-first _ _ h) (names-append ms ns (and-second (is_name m) _ h) g)
 
-length-params : (ps : List ParamTree) → length (param_names ps) ≡ length ps
-length-params [] = refl
-length-params (p ∷ ps) = ap (λ n. suc n) (length-params ps)
-
-length-nodes : (ns : List NodeTree) → length (node_names ns) ≡ length ns
-length-nodes [] = refl
-length-nodes (n ∷ ns) = ap (λ k. suc k) (length-nodes ns)
-
 end-stated : (items : List (List ℕ)) (rs : List ℕ) → 1 ≤ length rs → list_all solid (map (name_at items) rs) ≡ true → stated (end_fields items rs) ≡ true
 end-stated items [] l h = absurd (omega arith)
 end-stated items (r ∷ rs) l h = and-both _ _ refl h
@@ -180,10 +172,6 @@ funcs-named version n [] h = refl
 funcs-named version n (f ∷ fs) h =
     let fits = func-fits version n (most_results version fs) f (and-first _ _ h) in
     and-both _ _ fits.name (funcs-named version (n + 1) fs (and-second (formed_func version n (most_results version fs) f) _ h))
-
-length-funcs : (fs : List FuncTree) → length (func_names fs) ≡ length fs
-length-funcs [] = refl
-length-funcs (f ∷ fs) = ap (λ n. suc n) (length-funcs fs)
 
 pub program-stated : (p : ProgramTree) → formed p ≡ true → funcs_fit p.funcs ≡ true → list_all stated (statements p) ≡ true
 program-stated p h fit =

@@ -8,9 +8,9 @@ use Rattle.ae_fields.specs.Grammar.{State, Reading, step, after_line, by_state, 
 use Rattle.ae_seq.specs.Typing.{where_ok}
 use Rattle.ae_fields.specs.Parts.{is_mark}
 use Rattle.ae_print.specs.Printed.{spaced, joined, text_of}
-use Rattle.ae_fields.proofs.Bools.{and-first, and-second}
 use Rattle.ae_fields.proofs.FieldLemmas.{fields-run}
-use Rattle.ae_fields.proofs.PlainLemmas.{and-both}
+use Rattle.ae_seq.proofs.Judging.{left as and-first, right as and-second}
+use Rattle.ae_fields.proofs.PartLemmas.{and-both}
 
 -- bytes of a field, and bytes of a line
 abbrev pub inked : ℕ → Bool

@@ -14,9 +14,10 @@ use Rattle.ae_seq.specs.Formed.{is_unsigned, is_spelled, within}
 use Rattle.ae_fields.specs.Number.{plain_of}
 use Rattle.ae_seq.specs.Typing.{where_ok, ◌>>=◌}
 use Rattle.ae_fields.specs.TypeForm.{is_digit, digits_of, after_digits, past, letter_kind, word_from, pair_from, atom_from, alone, atom_type_of, length_from, sequence_from, type_from, type_of}
-use Rattle.ae_fields.proofs.Bools.{and-first, and-second}
-use Rattle.ae_fields.proofs.PlainLemmas.{own, and-both}
+use Rattle.ae_fields.proofs.PlainLemmas.{own}
 use Rattle.ae_fields.proofs.PlainOf.{plain-some}
+use Rattle.ae_seq.proofs.Judging.{left as and-first, right as and-second}
+use Rattle.ae_fields.proofs.PartLemmas.{and-both}
 
 digits-all : (ds : List ℕ) → all_ascii_digits ds ≡ true → list_all is_digit ds ≡ true
 digits-all [] h = refl

@@ -19,8 +19,9 @@ use Rattle.ae_delay.specs.Costs.{NodeTiming, Use, all_costs, chain_of, func_meet
 use Rattle.ae_delay.specs.Timings.{AreTimes, Times, item_arrivals}
 use Rattle.ae_delay.specs.Weighing.{deepened, deepened_by}
 use Rattle.ae_delay.proofs.Chains.{AreUses, deepened_at, length_deepened}
-use Rattle.ae_delay.proofs.Instances.{length_grown, node_sound, uses_below}
+use Rattle.ae_delay.proofs.Instances.{node_sound, uses_below}
 use Rattle.ae_retime.specs.Slacks.{AreArguments, AreByInstance, AreChains, AreResults, AreSlacks, SlackTables, UsesBelow, arrivals_in, item_chains, item_uses, joint_slacks, joint_uses}
+use Rattle.ae_seq.proofs.Items.{length-grown as length_grown}
 
 pub tree_at : (p : List StFunc) (k : ℕ) (s : StFunc) → slice_get p k ≡ Some s → slice_get (st_func_trees p) k ≡ Some (st_func_tree s)
 tree_at p k s f = get_mapped st_func_tree p k s f
@@ -38,7 +39,7 @@ uses_sound k s arrivals long h = record {
 pub layouts_long : (s : StFuncTree) → length (item_layouts s) ≡ length s.ins + length s.nodes
 layouts_long s = omega (arith, length-append s.ins (node_layouts s.nodes), length-map s.nodes (λ (x : StNodeTree). x.type))
 
-arrivals_long : (known : List OwnCosts) (s : StFuncTree) → length (item_arrivals known s) ≡ length (item_layouts s)
+pub arrivals_long : (known : List OwnCosts) (s : StFuncTree) → length (item_arrivals known s) ≡ length (item_layouts s)
 arrivals_long known s =
     let ts : List NodeTiming = node_timings known s in
     omega (

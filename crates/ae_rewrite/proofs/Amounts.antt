@@ -4,16 +4,13 @@ use Rattle.std.proofs.Math.Nat.{mul-le-mul_left}
 use Rattle.std.proofs.lemmas.Bool.Decides.{nat_tests}
 use Rattle.ae_word.specs.AtomTree.{AtomTree, word, pair, atom_words}
 use Rattle.ae_seqtype.specs.SeqTree.{SeqTree, atom, seq, atoms, words, in_size}
+use Rattle.ae_seqtype.proofs.Sizes.{atoms-le-words}
 
 atom_words-pos : (a : AtomTree) → 0 < atom_words a
 atom_words-pos (word k) = omega arith
 atom_words-pos (pair a b) = omega (arith, atom_words-pos a)
 
-atoms-le-words : (t : SeqTree) → atoms t ≤ words t
-atoms-le-words (atom a) = atom_words-pos a
-atoms-le-words (seq n t) = mul-le-mul_left n (atoms-le-words t)
-
-le-times : (n a b : ℕ) → 0 < n → a ≤ b → a ≤ n * b
+pub le-times : (n a b : ℕ) → 0 < n → a ≤ b → a ≤ n * b
 le-times n a b p h = grind arith
 
 pub few_atoms : (n : ℕ) (t : SeqTree) → IsTrue (in_size (seq n t)) → atoms t ≤ 16384

@@ -14,11 +14,11 @@ pub record IsFormedFunc (version funcs : ℕ) (f : FuncTree) : Type 0 where
   pub few_results : length f.results ≤ 8
   pub results : IsTrue (all_below (item_count f) f.results)
 
-both-left : (a b : Bool) → IsTrue (a && b) → IsTrue a
+pub both-left : (a b : Bool) → IsTrue (a && b) → IsTrue a
 both-left true b h = refl
 both-left false b h = h
 
-both-right : (a b : Bool) → IsTrue (a && b) → IsTrue b
+pub both-right : (a b : Bool) → IsTrue (a && b) → IsTrue b
 both-right true b h = h
 both-right false b h = absurd (false≢true h)
 
@@ -41,7 +41,7 @@ formed-func v n m f limit h =
       results = results;
     }
 
-few_most : (v : ℕ) (fs : List FuncTree) → most_results v fs ≤ 8
+pub few_most : (v : ℕ) (fs : List FuncTree) → most_results v fs ≤ 8
 few_most v [] = by_version (v == 2)
   where
     by_version : (b : Bool) → (if b then 8 else 1) ≤ 8

@@ -3,6 +3,7 @@ use Rattle.std.proofs.Common.{◌≡◌, ℕ, zero, suc, ◌+◌, ◌<◌, List,
 use Rattle.std.proofs.lemmas.Option.{slice_get-get_or, get_or_from_slice_get, slice_get_within, none-some, same_Some}
 use Rattle.std.proofs.lemmas.List.{get_or_append_left, get_or_push}
 use Rattle.ae_seq.specs.Typing.{grown}
+use Rattle.ae_seq.proofs.Items.{length-grown}
 
 -- ---- reads of a longer list
 
@@ -20,10 +21,6 @@ pub get_of_front : {X : Type 0} (xs ys : List X) (i : ℕ) (x : X) → slice_get
 get_of_front xs ys i x h p = slice_get-get_or xs i x p ∙ ap Some (sym (get_or_append_left xs ys x i p) ∙ get_or_from_slice_get (xs ++ ys) i x x h)
 
 -- ---- entries
-
-length-grown : {A B : Type 0} (step : List B → A → B) (known : List B) (xs : List A) → length (grown step known xs) ≡ length known + length xs
-length-grown step known [] = omega arith
-length-grown step known (x ∷ xs) = omega (arith, length-grown step (known ++ step known x ∷ []) xs, length-append known (step known x ∷ []))
 
 -- those that are known stay
 pub grown-front : {A B : Type 0} (step : List B → A → B) (known : List B) (xs : List A) (i : ℕ) (y : B) → slice_get known i ≡ Some y

@@ -35,11 +35,9 @@ use Rattle.ae_rewrite.proofs.WordKinds.{kind-place, words-atoms, fit-length, fit
 use Rattle.ae_rewrite.proofs.Laid.{Laid, laid, laid_whole}
 use Rattle.ae_rewrite.proofs.Reached.{reached-within}
 use Rattle.ae_rewrite.proofs.Used.{schedule_used}
+use Rattle.ae_rewrite.proofs.Amounts.{le-times as le_times}
 
 -- ---- how a sequence is spread
-
-le_times : (n a b : ℕ) → 0 < n → a ≤ b → a ≤ n * b
-le_times n a b p h = grind arith
 
 quotient_low : (n d : ℕ) → 0 < d → n % d ≡ 0 → n / d ≤ n
 quotient_low n d p h = let w = whole n d p h in let l = le_times d (n / d) (n / d) p (omega arith) in omega (arith, w, l)

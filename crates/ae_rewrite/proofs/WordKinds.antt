@@ -8,17 +8,7 @@ use Rattle.ae_word.specs.AtomTree.{WordKind, atom_words, atom_kinds}
 use Rattle.ae_word.proofs.Sizes.{length-atom_kinds}
 use Rattle.ae_seqtype.specs.SeqTree.{SeqTree, atom, seq, words, kinds, repeated, atoms, atom_of}
 use Rattle.ae_seqtype.specs.ValueTree.{fit_kinds}
-use Rattle.ae_seqtype.proofs.Stands.{repeated-one}
-
-repeated-add : {A : Type 0} (n m : ℕ) (xs : List A) → repeated (n + m) xs ≡ repeated n xs ++ repeated m xs
-repeated-add zero m xs = rw (zero-add m) refl
-repeated-add (suc n) m xs = rw (suc-add n m, append_assoc) (ap (λ ys. xs ++ ys) (repeated-add n m xs))
-
-repeated-mul : {A : Type 0} (n m : ℕ) (xs : List A) → repeated (n * m) xs ≡ repeated n (repeated m xs)
-repeated-mul zero m xs = rw (zero-mul m) refl
-repeated-mul (suc n) m xs =
-    let sum : suc n * m ≡ m + n * m = omega arith in
-    rw (sum, repeated-add m (n * m) xs, repeated-mul n m xs) refl
+use Rattle.ae_seqtype.proofs.Stands.{repeated-one, repeated-add, repeated-mul}
 
 kinds-repeated : (t : SeqTree) → kinds t ≡ repeated (atoms t) (atom_kinds (atom_of t))
 kinds-repeated (atom a) = sym (repeated-one (atom_kinds a))

@@ -13,7 +13,6 @@ use Rattle.ae_parse.specs.Number.{is_numeral, numeral_value}
 use Rattle.ae_parse.specs.Parts.{is_mark}
 use Rattle.ae_parse.specs.Scopes.{place}
 use Rattle.ae_parse.specs.Words.{words_after}
-use Rattle.ae_fields.proofs.Bools.{and-first, and-second}
 use Rattle.ae_fields.proofs.OptionLemmas.{bind-some, some-is}
 use Rattle.ae_fields.proofs.PlainLemmas.{number-of-decimal}
 use Rattle.ae_print.proofs.ProgramRead.{opened, open-first}
@@ -23,6 +22,7 @@ use Rattle.ae_says.specs.Readable.{AreReadable, IsReadable}
 use Rattle.ae_says.specs.Says.{AreLines, IsLine, Line, line_at, plain, said_from, same, zeros}
 use Rattle.ae_says.proofs.Once.{AllLow, ItemsNamed, by_words, const_rest, funcs-run, items-named, low-parts, no-equals, opened-runs, runs, version-some, whole-is}
 use Rattle.ae_says.proofs.Funcs.{funcs_said}
+use Rattle.ae_seq.proofs.Judging.{left as and-first, right as and-second}
 
 -- ---- a line that is written otherwise is read the same
 

@@ -16,13 +16,12 @@ use Rattle.ae_print.specs.Printed.{end_fields, funcs_fit, item_names, name_at, n
 use Rattle.ae_parse.specs.Scopes.{place}
 use Rattle.ae_parse.specs.TypeForm.{type_of}
 use Rattle.ae_parse.specs.Words.{const_from, with_arguments, words_after}
-use Rattle.ae_fields.proofs.Bools.{and-first, and-second}
 use Rattle.ae_print.proofs.LineRead.{Extends, NodeFits, extends-append, funcs-found, node-read, step-later}
 use Rattle.ae_fields.proofs.NameForms.{distinct-front, distinct-new}
 use Rattle.ae_print.proofs.OpRead.{FuncsFound}
 use Rattle.ae_fields.proofs.OptionLemmas.{bind-some, map-some, where-some, some-is}
 use Rattle.ae_parse.proofs.PartSound.{PartSound}
-use Rattle.ae_fields.proofs.PlainLemmas.{and-both, number-of-decimal}
+use Rattle.ae_fields.proofs.PlainLemmas.{number-of-decimal}
 use Rattle.ae_fields.proofs.PlainOf.{same-bytes}
 use Rattle.ae_print.proofs.ProgramRead.{FuncFits, IsOpen, end-read, func-fits, head-read, length-nodes, length-params, most-all, no-version, opened, open-first, still-open}
 use Rattle.ae_parse.proofs.Soundness.{Sound, fresh, going, start-sound, line-sound}
@@ -30,6 +29,8 @@ use Rattle.ae_fields.proofs.StepCases.{begun_state, node_state}
 use Rattle.ae_says.specs.Laws.{TextsSayOne}
 use Rattle.ae_says.specs.Says.{AreLines, IsLine, IsVersion, Line, func_said, line_at, node_said, one, plain, said_from, same, two, zeros}
 use Rattle.ae_says.proofs.Funcs.{funcs_said}
+use Rattle.ae_seq.proofs.Judging.{left as and-first, right as and-second}
+use Rattle.ae_fields.proofs.PartLemmas.{and-both}
 
 -- ---- a constant's words without the zeros before them are read the same
 

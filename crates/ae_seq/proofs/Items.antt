@@ -23,7 +23,7 @@ kept-types known (f ∷ fs) [] k i h = absurd h
 kept-types known (f ∷ fs) (us ∷ tss) zero i h = rw h.0 (sym (result-known (Some i) us))
 kept-types known (f ∷ fs) (us ∷ tss) (suc k) i h = kept-types (known ++ signature known f ∷ []) fs tss k i h.1
 
-length-grown : {A B : Type 0} (step : List B → A → B) (known : List B) (xs : List A) → length (grown step known xs) ≡ length known + length xs
+pub length-grown : {A B : Type 0} (step : List B → A → B) (known : List B) (xs : List A) → length (grown step known xs) ≡ length known + length xs
 length-grown step known [] = omega arith
 length-grown step known (x ∷ xs) = omega (arith, length-grown step (known ++ step known x ∷ []) xs, length-append known (step known x ∷ []))
 

@@ -94,14 +94,14 @@ node-step known items n rest t h s =
     let m = map-append {B = Option SeqTree} (λ x. Some x) items (t ∷ []) in
     rw (m, h, s) (refl, refl)
 
-true-and : (a b : Bool) → a ≡ true → b ≡ true → (a && b) ≡ true
+pub true-and : (a b : Bool) → a ≡ true → b ≡ true → (a && b) ≡ true
 true-and a b h g = rw h g
 
-left : (a b : Bool) → (a && b) ≡ true → a ≡ true
+pub left : (a b : Bool) → (a && b) ≡ true → a ≡ true
 left true b h = refl
 left false b h = h
 
-right : (a b : Bool) → (a && b) ≡ true → b ≡ true
+pub right : (a b : Bool) → (a && b) ≡ true → b ≡ true
 right true b h = h
 right false b h = cc
 

@@ -8,6 +8,7 @@ use Rattle.ae_seqtype.specs.SeqTree.{SeqTree, in_size, same_type}
 use Rattle.ae_seq.specs.ProgramTree.{FuncTree}
 use Rattle.ae_seq.specs.Signatures.{result_in, signatures_by}
 use Rattle.ae_seq.specs.Typing.{all_in_size, called, param_types, same_types, types_at, where_ok, ◌>>=◌, Signature}
+use Rattle.ae_seq.proofs.Judging.{true-and as both-true}
 
 and-false : (a b : Bool) → false ≡ b → false ≡ (a && b)
 and-false true b h = h
@@ -45,7 +46,7 @@ item-sized [] k t h g = cc
 item-sized (u ∷ ts) zero t h g = let e : u ≡ t = cc in rw (← e) (grind (arith, nat_tests))
 item-sized (u ∷ ts) (suc k) t h g = item-sized ts k t (grind (arith, nat_tests)) g
 
-some-item : (o : Option SeqTree) (t : SeqTree) → option_map (λ (x : SeqTree). Some x) o ≡ Some (Some t) → o ≡ Some t
+pub some-item : (o : Option SeqTree) (t : SeqTree) → option_map (λ (x : SeqTree). Some x) o ≡ Some (Some t) → o ≡ Some t
 some-item None t h = cc
 some-item (Some u) t h = cc
 
@@ -57,16 +58,12 @@ pub record Front (o : Option (Option SeqTree)) (r : Option (List SeqTree)) (us :
   pub rest_is : r ≡ Some rest
   pub whole : first ∷ rest ≡ us
 
-front : (o : Option (Option SeqTree)) (r : Option (List SeqTree)) (us : List SeqTree) → (o >>= λ p. p >>= λ t. r >>= λ vs. Some (t ∷ vs)) ≡ Some us
+pub front : (o : Option (Option SeqTree)) (r : Option (List SeqTree)) (us : List SeqTree) → (o >>= λ p. p >>= λ t. r >>= λ vs. Some (t ∷ vs)) ≡ Some us
     → Front o r us
 front (Some (Some t)) (Some vs) us h = record { first = t; rest = vs; first_is = refl; rest_is = refl; whole = cc }
 front (Some (Some t)) None us h = cc
 front (Some None) r us h = cc
 front None r us h = cc
-
-both-true : (a b : Bool) → a ≡ true → b ≡ true → (a && b) ≡ true
-both-true true b h g = g
-both-true false b h g = h
 
 pub types_at-sized : (ts : List SeqTree) (args : List ℕ) (us : List SeqTree) → IsTrue (all_in_size ts) → types_at (map Some ts) args ≡ Some us
     → IsTrue (all_in_size us)

@@ -37,11 +37,11 @@ elements-value_of n t ws = elements-listed _
 pub Stands-none : (t : SeqTree) → Stands (seq 0 t) [] (listed [])
 Stands-none t = record { fits = tt; value = refl }
 
-repeated-add : {A : Type 0} (n m : ℕ) (xs : List A) → repeated (n + m) xs ≡ repeated n xs ++ repeated m xs
+pub repeated-add : {A : Type 0} (n m : ℕ) (xs : List A) → repeated (n + m) xs ≡ repeated n xs ++ repeated m xs
 repeated-add zero m xs = rw (zero-add m) refl
 repeated-add (suc n) m xs = rw (suc-add n m, append_assoc) (ap (λ ys. xs ++ ys) (repeated-add n m xs))
 
-repeated-mul : {A : Type 0} (n m : ℕ) (xs : List A) → repeated (n * m) xs ≡ repeated n (repeated m xs)
+pub repeated-mul : {A : Type 0} (n m : ℕ) (xs : List A) → repeated (n * m) xs ≡ repeated n (repeated m xs)
 repeated-mul zero m xs = rw (zero-mul m) refl
 repeated-mul (suc n) m xs =
     let sum : suc n * m ≡ m + n * m = omega arith in
@@ -110,7 +110,7 @@ pub zeros-replicate : (ws : List ℕ) → zeros ws ≡ replicate (length ws) 0
 zeros-replicate [] = refl
 zeros-replicate (x ∷ ws) = ap (λ xs. 0 ∷ xs) (zeros-replicate ws)
 
-zeroed-listed : (xs : List ValueTree) → zeroed (listed xs) ≡ listed (map zeroed xs)
+pub zeroed-listed : (xs : List ValueTree) → zeroed (listed xs) ≡ listed (map zeroed xs)
 zeroed-listed [] = refl
 zeroed-listed (x ∷ xs) = ap (λ v. more (zeroed x) v) (zeroed-listed xs)
 

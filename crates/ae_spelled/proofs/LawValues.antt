@@ -29,6 +29,7 @@ use Rattle.ae_verilog.specs.NetlistModule.{number_name, cell_name, net_name, net
 use Rattle.ae_verilog.specs.Written.{IsWritableNetlist}
 use Rattle.ae_spelled.proofs.LawNets.{written, cell_net, cell_named, name_of}
 use Rattle.ae_spelled.proofs.LawItems.{cell_drives}
+use Rattle.ae_verilog.proofs.NoteLines.{not_less as not_below}
 
 shift_out_left : (w by x : ℕ) → w ≤ by → (x * 2 ^ by) % 2 ^ w ≡ 0
 shift_out_left w by x h =
@@ -39,13 +40,6 @@ shift_out_left w by x h =
 
 shift_out_right : (w by x : ℕ) → x < 2 ^ w → w ≤ by → x / 2 ^ by ≡ 0
 shift_out_right w by x f h = div-eq_of_lt (let p = pow_mono h in omega arith)
-
-not_below : (a b : ℕ) → nat_lt a b ≡ false → b ≤ a
-not_below a b h = elim (at_least a b) [ inl l ↦ l | inr g ↦ absurd (both_ways _ h ((Decides-ltb a b).1 g)) ] where
-  at_least : (a b : ℕ) → (b ≤ a) ⊎ (a < b)
-  at_least a zero = inl (omega arith)
-  at_least zero (suc b) = inr (omega arith)
-  at_least (suc a) (suc b) = elim (at_least a b) [ inl l ↦ inl (omega arith) | inr g ↦ inr (omega arith) ]
 
 test_less : (x y a b : ℕ) (u : Bool) → nat_lt x y ≡ u → (if bit u == 0 then b else a) ≡ (if u then a else b)
 test_less x y a b true e = refl

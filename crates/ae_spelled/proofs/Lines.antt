@@ -15,6 +15,7 @@ use Rattle.ae_verilog.specs.Text.{expr_text, range_text, wire_text, value_text, 
 use Rattle.ae_spelled.specs.Streams.{IsModuleName}
 use Rattle.ae_spelled.proofs.Pieces.{IsNameText, IsClean, clean_both, clean_then, number_form, decimal_token, decimal_clean, number_named, marked_name, decimal_starts, decimal_named, named_both}
 use Rattle.ae_spelled.proofs.Writable.{expr_form, IsWritable, expr_piece, expr_clean, open_bracket_token, close_bracket_token, colon_token}
+use Rattle.ae_vtoken.proofs.Examples.{key as endmodule_token, at_most as at_most_token, zero_alone as zero_token}
 
 -- text of these tokens, whatever tokens stand behind it, without % and $
 pub record IsTextOf (text : List ℕ) (ts : List TokenTree) : Type 0 where
@@ -36,10 +37,6 @@ both_texts a b ts us one two = record {
 pub module_token : token_of (codes "module") ≡ Some (Word Module)
 unfolding token_of keys
 module_token = refl
-
-endmodule_token : token_of (codes "endmodule") ≡ Some (Word EndModule)
-unfolding token_of keys
-endmodule_token = refl
 
 pub input_token : token_of (codes "input") ≡ Some (Word Input)
 unfolding token_of keys
@@ -112,14 +109,6 @@ at_token = refl
 equals_token : token_of (codes "=") ≡ Some (Mark Equals)
 unfolding token_of signs
 equals_token = refl
-
-at_most_token : token_of (codes "<=") ≡ Some (Mark AtMost)
-unfolding token_of signs
-at_most_token = refl
-
-zero_token : token_of (codes "0") ≡ Some Zero
-unfolding token_of
-zero_token = refl
 
 pub net_named : (lines : ℕ → ℕ) → (net : ℕ) → IsNameText (number_name lines net)
 unfolding number_name

@@ -17,6 +17,7 @@ use Rattle.ae_spelled.proofs.Pieces.{number_form}
 use Rattle.ae_spelled.proofs.Writable.{number_back}
 use Rattle.ae_spelled.proofs.Lines.{range_form, value_item, register_item, memory_item, assign_item, register_edge_item, memory_edge_item}
 use Rattle.ae_spelled.proofs.Ports.{port_form, clock_port}
+use Rattle.ae_spelled.proofs.LawSame.{map_parts as map_both}
 
 abbrev pub input_forms : ℕ → Cell → List PortForm
 input_forms width (Input port) = port_form (InputHead true) width (port_name 1 port) ∷ []
@@ -85,10 +86,6 @@ flat_listed g f k (x ∷ xs) = flat_both g (f k x) (each_numbered f (k + 1) xs) 
 pub flat_mapped : {X Y A : Type 0} (g : Y → List A) (f : X → Y) (xs : List X) → flat_map g (map f xs) ≡ flat_map (λ x. g (f x)) xs
 flat_mapped g f [] = refl
 flat_mapped g f (x ∷ xs) = ap (λ l. g (f x) ++ l) (flat_mapped g f xs)
-
-pub map_both : {X A : Type 0} (f : X → A) (xs ys : List X) → map f (xs ++ ys) ≡ map f xs ++ map f ys
-map_both f [] ys = refl
-map_both f (x ∷ xs) ys = ap (λ l. f x ∷ l) (map_both f xs ys)
 
 pub map_listed : {X Y A : Type 0} (g : Y → A) (f : ℕ → X → List Y) (k : ℕ) (xs : List X)
     → map g (each_numbered f k xs) ≡ each_numbered (λ n x. map g (f n x)) k xs

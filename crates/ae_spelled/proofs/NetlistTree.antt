@@ -18,7 +18,8 @@ use Rattle.ae_spelled.specs.Streams.{renamed}
 use Rattle.ae_spelled.proofs.Pieces.{IsNameText, number_form}
 use Rattle.ae_spelled.proofs.Writable.{IsWritable, expr_back}
 use Rattle.ae_spelled.proofs.Named.{IsGood, name_named, net_inside, all_named, is_constant, op_writable, op_drive}
-use Rattle.ae_spelled.proofs.NetlistForm.{input_forms, output_form, declaration_form, assignment_form, edge_form, item_forms, netlist_form, flat_both, flat_flat, flat_same, unnumbered, flat_single, map_both, map_listed, map_map, listed_same, next_place, first_place, net_back, size_back}
+use Rattle.ae_spelled.proofs.NetlistForm.{input_forms, output_form, declaration_form, assignment_form, edge_form, item_forms, netlist_form, flat_both, flat_flat, flat_same, unnumbered, flat_single, map_listed, map_map, listed_same, next_place, first_place, net_back, size_back}
+use Rattle.ae_spelled.proofs.LawSame.{map_parts as map_both}
 
 -- what a cell needs to be declared
 abbrev pub IsDeclared : (lines : ℕ → ℕ) → List SizedCell → (net width : ℕ) → Cell → Type 0

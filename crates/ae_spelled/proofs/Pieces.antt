@@ -14,8 +14,8 @@ use Rattle.ae_vtoken.specs.declared.token.Key.{Key}
 use Rattle.ae_vread.specs.Tables.{keys, unused_0, unused_1, unused_2, unused_3, unused_4, unused_5, unused_6, unused_7, unused_8, unused_9}
 use Rattle.ae_vread.specs.Tokens.{Name, Decimal, Sized, look_up, is_unused, is_word_start, is_word_byte, word_of, are_digits, number_from, decimal_of, token_of, constant}
 use Rattle.ae_vread.specs.ExprForms.{NumberForm, ZeroForm, DecimalForm, number_token}
-use Rattle.ae_vtoken.proofs.TokenLemmas.{of_key}
 use Rattle.ae_verilog.specs.ReportLines.{is_clean}
+use Rattle.ae_vtoken.proofs.MarkLemmas.{of_key}
 
 -- a text without % and $
 pub record IsClean (text : List ℕ) : Type 0 where

@@ -12,9 +12,10 @@ use Rattle.ae_vread.specs.Tables.{signs}
 use Rattle.ae_vread.specs.Tokens.{TokenTree, Name, Mark, Sized, look_up, is_word_start, token_of, IsLongest, AreTokens}
 use Rattle.ae_vread.specs.ModuleTree.{ExprTree, name, constant, place, part, index, unary, binary, choice, concat_one, concat_more}
 use Rattle.ae_vread.specs.ExprForms.{number_value, ExprForm, NameForm, ConstForm, PartForm, IndexForm, PrefixForm, InfixForm, ChoiceForm, LastPart, MoreParts, infix_sign, expr_tokens, expr_of}
-use Rattle.ae_vtoken.proofs.TokenLemmas.{is_lone, of_key, spaced, mark, blank_then, token_then}
+use Rattle.ae_vtoken.proofs.TokenLemmas.{is_lone, spaced, mark, blank_then, token_then}
 use Rattle.ae_verilog.specs.Text.{prefix_text, sign_text, expr_text}
 use Rattle.ae_spelled.proofs.Pieces.{IsNameText, number_form, decimal_token, sized_token, IsClean, clean_both, clean_then, decimal_clean}
+use Rattle.ae_vtoken.proofs.MarkLemmas.{of_key}
 
 -- the form without parentheses
 abbrev pub expr_form : ExprTree → ExprForm

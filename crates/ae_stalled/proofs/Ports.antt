@@ -12,7 +12,7 @@ use Rattle.ae_netlist.specs.Circuit.{Circuit, HaveNets, IsNet, width_of}
 use Rattle.ae_netlist.specs.Counts.{cells_of, count_of, is_input, number_of}
 use Rattle.ae_verilog.specs.NetlistModule.{IsInputPort}
 use Rattle.ae_ports.specs.Ports.{SizedPort, input_cell, outlet_port}
-use Rattle.ae_correct.proofs.Nets.{HavePorts}
+use Rattle.ae_correct.proofs.Nets.{HavePorts, inputs_kept as all_kept}
 use Rattle.ae_netlist.proofs.Growing.{width_is}
 use Rattle.ae_stall.specs.Images.{renumbered, moved_outlet, with_enable}
 use Rattle.ae_stall.specs.Stalled.{IsStalled}
@@ -22,10 +22,6 @@ enable_port = record { port = Enable; width = 1 }
 
 abbrev input_test : SizedCell → Bool
 input_test c = is_input c.cell
-
-all_kept : (ports : List SizedPort) → filter input_test (map input_cell ports) ≡ map input_cell ports
-all_kept [] = refl
-all_kept (p ∷ ports) = ap (λ cells. input_cell p ∷ cells) (all_kept ports)
 
 all_counted : (ports : List SizedPort) → count_of is_input (map input_cell ports) ≡ length ports
 all_counted ports =

@@ -47,7 +47,7 @@ kind_in _ = 2
 in_kind : (ss : List Stream) (n : ℕ) (p : SizedPort) → slice_get (input_ports ss) n ≡ Some p → kind_in p.port ≡ 2
 in_kind ss n p h = let r = port_from (λ param lane word. In param lane word) 0 ss n p h in ap kind_in r.port
 
-head_kind : (p q : SizedPort) → Some p ≡ Some q → kind_in q.port ≡ kind_in p.port
+pub head_kind : (p q : SizedPort) → Some p ≡ Some q → kind_in q.port ≡ kind_in p.port
 head_kind p q e = sym (ap (λ (x : SizedPort). kind_in x.port) (same_Some p q e))
 
 kinds_apart : {A : Type 0} (a b : SizedPort) (k l : ℕ) → kind_in a.port ≡ k → kind_in b.port ≡ l → a.port ≡ b.port → k < l → A

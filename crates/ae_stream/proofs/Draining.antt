@@ -19,14 +19,7 @@ use Rattle.ae_stream.proofs.Numbers.{passing_later, passing_le, passing_lt}
 use Rattle.ae_stream.proofs.Rate.{none_second}
 use Rattle.ae_stream.proofs.Stepping.{by_step, counts_on, fair, one_or_none, pop_is, room, step_at}
 use Rattle.ae_stream.proofs.Taking.{here_is, taken_by_number}
-
-and_left : (a b : Bool) → (a && b) ≡ true → a ≡ true
-and_left true b e = refl
-and_left false b e = absurd (grind (arith, e))
-
-and_right : (a b : Bool) → (a && b) ≡ true → b ≡ true
-and_right true b e = e
-and_right false b e = absurd (grind (arith, e))
+use Rattle.ae_seq.proofs.Judging.{left as and_left, right as and_right}
 
 and_same : (a : Bool) → one_if (a && true) ≡ one_if a
 and_same true = refl

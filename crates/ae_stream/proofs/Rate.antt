@@ -28,7 +28,7 @@ stays_here : (first valid current : Bool) → valid ≡ true → current ≡ tru
 stays_here true valid current a b = a
 stays_here false valid current a b = b
 
-or_true : (a : Bool) → (a || true) ≡ true
+pub or_true : (a : Bool) → (a || true) ≡ true
 or_true true = refl
 or_true false = refl
 

@@ -11,6 +11,7 @@ use Rattle.ae_stream.specs.Control.{Control, queue_of, steps_before, word_in}
 use Rattle.ae_stream.specs.Gates.{Gates, HasGates, may_go}
 use Rattle.ae_stream.specs.Driven.{IsDriven, IsRead, Row, next_flag}
 use Rattle.ae_stream.specs.Wired.{AreQueued, FromEach, InEach, IsCleared, IsMarked, IsWired, is_put}
+use Rattle.ae_seq.proofs.Judging.{left as both_left}
 
 -- where two stand in the next clock, one does
 second_has_first : (one two push pop : Bool) → next_two one two push pop ≡ true → next_one one two push pop ≡ true
@@ -23,10 +24,6 @@ no_room : (reset two go : Bool) → reset ≡ false → (shows : Bool) → ((res
 no_room false false go low shows h = refl
 no_room false true go low shows h = (let e : false ≡ true = h in absurd (grind (arith, e)))
 no_room true two go low shows h = (let e : true ≡ false = low in absurd (grind (arith, e)))
-
-both_left : (a b : Bool) → (a && b) ≡ true → a ≡ true
-both_left true b h = refl
-both_left false b h = h
 
 taken_or : (first wanted beat : Bool) → wanted ≡ beat → (first ≡ true → beat ≡ true) → (first || wanted) ≡ beat
 taken_or true wanted beat e b = sym (b refl)

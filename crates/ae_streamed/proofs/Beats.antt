@@ -11,6 +11,8 @@ use Rattle.ae_sttype.proofs.Bounds.{time_pos}
 use Rattle.ae_sttype.proofs.Lively.{live_sseq, live_tseq, of_live_tseq}
 use Rattle.ae_clocked.specs.Phases.{phase_of}
 use Rattle.ae_stream.specs.Streams.{in_clock}
+use Rattle.ae_stream.proofs.Flags.{lt_is}
+use Rattle.ae_stream.proofs.Rate.{or_true}
 
 -- ---- a clock in which an element stands
 
@@ -22,10 +24,6 @@ live_in (w ∷ ws) c h = step (λ k. live_in ws c k) (w.clock == c) refl h
         → Any (λ (w : Slot). w.clock ≡ c) (w ∷ ws)
     step more true e h = (0, w, omega arith, refl, eqb-true w.clock c e)
     step more false e h = (let a = more h in (suc a.0, a.1, omega (arith, a.2), a.3, a.4))
-
-or_true : (a : Bool) → (a || true) ≡ true
-or_true true = refl
-or_true false = refl
 
 clock_in : (ws : List Slot) (c i : ℕ) (x : Slot) → i < length ws → get_or ws i x ≡ x → x.clock ≡ c → in_clock ws c ≡ true
 clock_in [] c i x l e h = absurd (omega arith)
@@ -42,9 +40,6 @@ same_bits : (a b : Bool) → (a ≡ true → b ≡ true) → (b ≡ true → a �
 same_bits true b f g = sym (f refl)
 same_bits false true f g = g refl
 same_bits false false f g = refl
-
-pub lt_is : (a b : ℕ) → a < b → nat_lt a b ≡ true
-lt_is a b l = grind (arith, l)
 
 pub is_lt : (a b : ℕ) → nat_lt a b ≡ true → a < b
 is_lt a b h = grind (arith, h)

@@ -33,8 +33,9 @@ use Rattle.ae_streamed.specs.Between.{IsStream, IsWrapped, channel_ends, channel
 use Rattle.ae_streamed.specs.Columns.{net_at}
 use Rattle.ae_streamed.specs.Count.{mark_cells}
 use Rattle.ae_streamed.specs.Controls.{control_of, ends_of}
-use Rattle.ae_streamed.proofs.Cells.{net_within, same_cells}
+use Rattle.ae_streamed.proofs.Cells.{same_cells}
 use Rattle.ae_streamed.proofs.Phasing.{bit_of}
+use Rattle.ae_clocked.proofs.Added.{net_within}
 
 -- ---- outputs
 

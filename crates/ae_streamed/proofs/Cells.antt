@@ -14,6 +14,7 @@ use Rattle.ae_netlist.proofs.Gets.{get_left, get_pushed, get_set_other, get_set_
 use Rattle.ae_netlist.proofs.Growing.{net_later, net_width, width_is, extends_append, extends_length, extends_refl, extends_trans, keeps_connected}
 use Rattle.ae_stall.specs.Copies.{IsLogic}
 use Rattle.ae_streamed.specs.Cells.{AddsControl, AreChoices, AreConnected, CanConnect, HasRegisters, IsControlCell, IsLonger, StandsBefore, choice, taking}
+use Rattle.ae_clocked.proofs.Added.{register_width, own_register, net_own, net_within}
 
 -- ---- lists
 
@@ -295,18 +296,6 @@ pub found_at : {X : Type 0} (xs : List X) (k : ℕ) (d : X) → k < length xs �
 found_at [] k d l = absurd (omega arith)
 found_at (x ∷ xs) zero d l = refl
 found_at (x ∷ xs) (suc k) d l = found_at xs k d (omega arith)
-
-pub register_width : {cells : List SizedCell} {r w : ℕ} → IsRegister cells r w → width_of cells r ≡ w
-register_width {cells} {r} h = width_is cells r _ h.found
-
-pub own_register : {cells : List SizedCell} {r w : ℕ} → IsRegister cells r w → IsRegister cells r (width_of cells r)
-own_register {cells} {r} h = rw (register_width h) h
-
-pub net_own : {cells : List SizedCell} {r v w : ℕ} → IsRegister cells r w → IsNet cells v w → IsNet cells v (width_of cells r)
-net_own {cells} {r} h n = rw (register_width h) n
-
-pub net_within : {cells : List SizedCell} {n w : ℕ} → IsNet cells n w → n < length cells
-net_within {cells} {n} h = slice_get_within cells n h.sized h.found
 
 pub longer_length : {a b : Circuit} → IsLonger a b → length a.cells ≤ length b.cells
 longer_length {a} {b} h = extends_length a.cells b.cells h.extends

@@ -26,9 +26,9 @@ use Rattle.ae_streamed.specs.Cells.{AddsControl, IsLonger, KeepsFrom}
 use Rattle.ae_streamed.specs.Columns.{AreColumns}
 use Rattle.ae_streamed.specs.Count.{control_cells}
 use Rattle.ae_streamed.specs.Controls.{AreWires, HasControlNets, IsControl, net}
-use Rattle.ae_streamed.proofs.Cells.{is_logic, longer_trans, net_within, next_first, no_input, no_mul, same_count, same_kind, there}
+use Rattle.ae_streamed.proofs.Cells.{is_logic, longer_trans, next_first, no_input, no_mul, same_count, same_kind, there}
 use Rattle.ae_streamed.proofs.Within.{of_mapped}
-use Rattle.ae_streamed.proofs.Queueing.{own_width}
+use Rattle.ae_clocked.proofs.Added.{net_within, own_net as own_width}
 
 -- ---- a control and its queues go on to be what they are where their cells are kept
 

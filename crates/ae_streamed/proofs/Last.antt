@@ -12,9 +12,10 @@ use Rattle.ae_sttype.specs.Slots.{slots}
 use Rattle.ae_sttype.proofs.Bounds.{time_pos}
 use Rattle.ae_stream.specs.Streams.{in_clock, is_beat}
 use Rattle.ae_streamed.specs.Beats.{AreLayouts, IsLastBeat}
-use Rattle.ae_streamed.proofs.Beats.{both_true, in_slots_across, in_slots_later, is_lt, live_of, lt_is}
+use Rattle.ae_streamed.proofs.Beats.{both_true, in_slots_across, in_slots_later, is_lt, live_of}
 use Rattle.ae_streamed.proofs.Bits.{beat_more}
 use Rattle.ae_streamed.proofs.Within.{slot_in}
+use Rattle.ae_stream.proofs.Flags.{lt_is}
 
 -- of one layout
 pub record IsLastIn (s : StTree) (clock : ℕ) : Type 0 where

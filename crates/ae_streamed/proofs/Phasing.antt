@@ -6,7 +6,8 @@ use Rattle.std.proofs.lemmas.Nat.{div-add-mod', mod_below, mod-mul-add}
 use Rattle.std.proofs.Math.Nat.{add-mod_right}
 use Rattle.ae_clocked.specs.Phases.{phase_of}
 use Rattle.ae_stream.specs.Driven.{late_clock}
-use Rattle.ae_streamed.proofs.Beats.{lt_is, more_mod}
+use Rattle.ae_streamed.proofs.Beats.{more_mod}
+use Rattle.ae_stream.proofs.Flags.{ge_is, lt_is}
 
 -- a bit that is told by a number
 pub bit_of : (b : Bool) (word : ℕ) → word ≡ (if b then 1 else 0) → (word == 1) ≡ b
@@ -16,13 +17,6 @@ bit_of false word e = ap (λ n. n == 1) e
 pub phase_first : (slowdown t : ℕ) → phase_of slowdown 0 t ≡ t % slowdown
 unfolding phase_of
 phase_first slowdown t = (let e : t + slowdown - 0 ≡ t + slowdown = omega arith in ap (λ n. n % slowdown) e ∙ add-mod_right t slowdown)
-
-ge_is : (a b : ℕ) → b ≤ a → nat_lt a b ≡ false
-ge_is a b m = step (nat_lt a b) refl
-  where
-    step : (v : Bool) → nat_lt a b ≡ v → v ≡ false
-    step false e = refl
-    step true e = absurd (grind (arith, e, m))
 
 below_one : (n : ℕ) → nat_lt n 1 ≡ (n == 0)
 below_one n = elim (cases_eq n 0) [

@@ -14,9 +14,7 @@ use Rattle.ae_streamed.proofs.Cells.{get_behind, longer_by, longer_set, longer_t
 use Rattle.ae_streamed.proofs.Standing.{choice_net, register_net}
 use Rattle.ae_streamed.proofs.Tables.{fit}
 use Rattle.ae_streamed.proofs.Tables.Fit.{before, none}
-
-pub own_width : {cells : List SizedCell} {n w : ℕ} → IsNet cells n w → IsNet cells n (width_of cells n)
-own_width h = rw (net_width h) h
+use Rattle.ae_clocked.proofs.Added.{own_net as own_width}
 
 -- a register more
 pub longer_one : (a b : Circuit) (w : ℕ) → b ≡ record a { cells = a.cells ++ new_register (length a.cells) w ∷ [] } → (length b.cells ≡ length a.cells + 1)

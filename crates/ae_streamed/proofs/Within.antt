@@ -9,13 +9,14 @@ use Rattle.ae_sttype.specs.StTree.{StTree, atom, tseq, sseq, element_words, lane
 use Rattle.ae_sttype.specs.Size.{HasLengths}
 use Rattle.ae_sttype.specs.Slots.{slots}
 use Rattle.ae_sttype.specs.Moves.{columns_of, first_column}
-use Rattle.ae_sttype.proofs.Bounds.{element_words_pos, lanes_pos, time_pos}
+use Rattle.ae_sttype.proofs.Bounds.{element_words_pos, lanes_pos, time_pos, product_pos as some_product}
 use Rattle.ae_sttype.proofs.Places.{slot_below, stands_from_get}
 use Rattle.ae_stream.specs.Streams.{in_clock, is_beat}
 use Rattle.ae_stream.specs.Control.{AreWithin}
 use Rattle.ae_streamed.specs.Beats.{AreLayouts}
-use Rattle.ae_streamed.proofs.Beats.{in_slots_across, in_slots_later, lt_is}
+use Rattle.ae_streamed.proofs.Beats.{in_slots_across, in_slots_later}
 use Rattle.ae_stall.proofs.Counted.{take_found}
+use Rattle.ae_stream.proofs.Flags.{lt_is}
 
 -- an element of a list, each by a function, is one of the list
 pub of_mapped : {X Y : Type 0} (f : X → Y) (xs : List X) (n : ℕ) (y : Y) → slice_get (map f xs) n ≡ Some y → (x : X) × (slice_get xs n ≡ Some x) × (f x ≡ y)
@@ -31,9 +32,6 @@ first_below layouts q c s found l =
     ap (sum_by columns_of) (take_found layouts q s found) ∙
     (sum_by-append columns_of (take q layouts) (s ∷ []) ∙ ap (λ n. sum_by columns_of (take q layouts) + n) (zero-add (columns_of s))) in
     omega (arith, next, l, sum_by-take-le columns_of layouts (q + 1))
-
-some_product : (a b : ℕ) → 0 < a → 0 < b → 0 < a * b
-some_product a b p q = grind arith
 
 -- some element stands in the first clock
 first_live : (s : StTree) → HasLengths s → in_clock (slots s) 0 ≡ true

@@ -12,7 +12,7 @@ pub element_words_pos : (s : StTree) → 0 < element_words s
 element_words_pos s = atom_words_pos (element_atom s)
 
 -- a product of numbers above 0
-product_pos : (a b : ℕ) → 0 < a → 0 < b → 0 < a * b
+pub product_pos : (a b : ℕ) → 0 < a → 0 < b → 0 < a * b
 product_pos a b p q = grind arith
 
 pub time_pos : (s : StTree) → HasLengths s → 0 < time s
@@ -45,7 +45,7 @@ lanes-le-atoms (sseq n t) h = product_le n (lanes t) (st_atoms t) (lanes-le-atom
 factor_le : (a b m : ℕ) → 0 < b → a * b ≤ m → a ≤ m
 factor_le a b m p h = grind arith
 
-product_part : (a b m : ℕ) → 0 < a → a * b ≤ m → b ≤ m
+pub product_part : (a b m : ℕ) → 0 < a → a * b ≤ m → b ≤ m
 product_part a b m p h = grind arith
 
 pub atoms_below : (s : StTree) → IsInSize s → st_atoms s ≤ 16384

@@ -60,7 +60,7 @@ pub sseq_slot : (n : ℕ) (t : StTree) → 0 < st_atoms t → (e : ℕ) → e < 
     slot_of (sseq n t) e ≡ moved (e / st_atoms t * 0) (e / st_atoms t * lanes t) (slot_of t (e % st_atoms t))
 sseq_slot n t p e h = copies_place n 0 (lanes t) (st_atoms t) (slots t) e (slot_at 0 0) (length-slots t) p h
 
-row_below : (q c n k : ℕ) → q < n → c < k → q * k + c < n * k
+pub row_below : (q c n k : ℕ) → q < n → c < k → q * k + c < n * k
 row_below q c n k p h = omega (arith, mul-add-lt q k c n p h)
 
 -- every slot lies within the time and the lanes
@@ -84,7 +84,7 @@ pub record Stands (s : StTree) (e c l : ℕ) : Type 0 where
   pub below : e < st_atoms s
   pub is : slot_of s e ≡ slot_at c l
 
-same_slot : (a b c d : ℕ) → a ≡ c → b ≡ d → slot_at a b ≡ slot_at c d
+pub same_slot : (a b c d : ℕ) → a ≡ c → b ≡ d → slot_at a b ≡ slot_at c d
 same_slot a b c d p q = cc
 
 -- element e of a sequence in time is element e mod st_atoms, in the e / atoms-th stretch

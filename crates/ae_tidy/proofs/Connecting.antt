@@ -13,7 +13,7 @@ use Rattle.ae_netlist.specs.Circuit.{Circuit, IsNet, IsPlain, IsRegister, IsMemo
 use Rattle.ae_netlist.specs.Counts.{is_input, is_mul}
 use Rattle.ae_netlist.proofs.Counting.{count_replaced}
 use Rattle.ae_netlist.proofs.Gets.{get_from_take, get_set_other, get_set_same, get_take_within}
-use Rattle.ae_netlist.proofs.Growing.{width_is, net_width, net_from_take, memory_from_take, main_is}
+use Rattle.ae_netlist.proofs.Growing.{width_is, net_width, net_from_take, memory_from_take, main_is, same_sized}
 use Rattle.ae_netlist.proofs.Settled.{each_operand}
 use Rattle.ae_tidy.specs.Images.{Maps, IsImage, Stands, fresh_cell, is_late, late_cell}
 use Rattle.ae_tidy.specs.Marks.{EachRead, IsKept, AreMarked}
@@ -25,9 +25,6 @@ use Rattle.ae_tidy.proofs.Copying.{fresh_input, fresh_mul, fresh_plain, image_in
 use Rattle.ae_tidy.proofs.SameRuns.{AreImages}
 
 -- ---- what stands in the place of a net, a constant, an address and a memory
-
-same_sized : (a b : SizedCell) → a.width ≡ b.width → a.cell ≡ b.cell → a ≡ b
-same_sized a b p q = ap (λ w. record { width = w; cell = a.cell }) p ∙ ap (λ c. record { width = b.width; cell = c }) q
 
 -- a net that is not connected is late
 as_image : {old new : List SizedCell} {table : List (Option NetId)} {made : List NetId} {d n m : ℕ} (P : Cell → Type 0) (s : Stands old new table made d n m)

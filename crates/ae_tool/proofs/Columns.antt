@@ -22,7 +22,8 @@ use Rattle.ae_lower.proofs.Blocks.{keys_of}
 use Rattle.ae_lower.proofs.Layouts.{parameters_laid, results_laid}
 use Rattle.ae_tool.specs.RunTexts.{input_count, layout_columns, output_count}
 use Rattle.ae_correct.proofs.Laid.{few_ins}
-use Rattle.ae_compile.proofs.Modules.{few_columns, unmapped}
+use Rattle.ae_compile.proofs.Modules.{few_columns}
+use Rattle.ae_correct.proofs.Written.{unmapped}
 
 pub counted_next : (xs : List StType) (i count wide : ℕ) (x : StType) → i < length xs → x ≡ get_or xs i x → wide ≡ columns_of (st_tree x) → wide ≤ 16384
     → count + sum_by columns_of (map st_tree (drop i xs)) ≡ sum_by columns_of (map st_tree xs) → count ≤ i * 16384

@@ -8,14 +8,7 @@ use Rattle.std.proofs.lemmas.Fmt.{digits_decimal}
 use Rattle.ae_fields.proofs.PlainLemmas.{own}
 use Rattle.ae_seq.specs.Formed.{is_name_byte, all_name_bytes}
 use Rattle.ae_tool.specs.CostTables.{comma_line, more_fields}
-
-both_left : (a b : Bool) → (a && b) ≡ true → a ≡ true
-both_left true b h = refl
-both_left false b h = h
-
-both_right : (a b : Bool) → (a && b) ≡ true → b ≡ true
-both_right true b h = h
-both_right false b h = cc
+use Rattle.ae_seq.proofs.Judging.{left as both_left, right as both_right}
 
 -- a number in decimal is plain
 digit_name : (d : ℕ) → is_ascii_digit d ≡ true → is_name_byte d ≡ true

@@ -10,7 +10,7 @@ use Rattle.std.proofs.lemmas.List.{length-drop, length-map, length-take-le, nil_
 use Rattle.std.proofs.lemmas.List.FromFn.{length-map-range_with_len, map-range_with_len_more}
 use Rattle.ae_parse.specs.Number.{is_numeral}
 use Rattle.ae_parse.specs.Rows.{bad_row, is_right, row_words, words_in, wrong_column, wrong_row}
-use Rattle.ae_fields.proofs.PlainLemmas.{and-both, own}
+use Rattle.ae_fields.proofs.PlainLemmas.{own}
 use Rattle.ae_seqtype.specs.ValueTree.{cut}
 use Rattle.ae_seqtype.proofs.Cuts.{length-cut}
 use Rattle.ae_seq.specs.ProgramTree.{ProgramTree}
@@ -18,6 +18,7 @@ use Rattle.ae_tool.specs.EvalRows.{AreBlocks}
 use Rattle.ae_tool.specs.RunTexts.{input_widths}
 use Rattle.ae_tool.specs.DemoTexts.{demo_blocks, demo_program, demo_table, demo_word, demo_words}
 use Rattle.ae_tool.proofs.RowCounts.{mul-le}
+use Rattle.ae_fields.proofs.PartLemmas.{and-both}
 
 -- ---- sizes
 

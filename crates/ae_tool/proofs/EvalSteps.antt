@@ -18,7 +18,6 @@ use Rattle.ae_seq.specs.ProgramTree.{ProgramTree}
 use Rattle.ae_seq.specs.Typing.{type_at}
 use Rattle.ae_seq.specs.Meaning.{mean}
 use Rattle.ae_parse.specs.Rows.{is_right, wrong_column, wrong_row, bad_row, row_words, words_in}
-use Rattle.ae_fields.proofs.Bools.{and-second}
 use Rattle.ae_eval.specs.Stack.{AllFit, FitIn, IsTyped, kinds_of, values_in, values_of, words_of}
 use Rattle.ae_eval.specs.Lines.{input_types}
 use Rattle.ae_eval.proofs.Framing.{length-FitIn}
@@ -33,6 +32,7 @@ use Rattle.ae_tool.proofs.RowCounts.{divided, mul-le}
 use Rattle.ae_tool.specs.EvalTexts.{IsEvalOf, eval_size, eval_text, row_results, type_words, words_line}
 use Rattle.ae_tool.specs.EvalRows.{AreRows, values_in_row}
 use Rattle.ae_tool.proofs.EvalTypes.{has_columns, same_parameters}
+use Rattle.ae_seq.proofs.Judging.{right as and-second}
 
 -- ---- rows that are right
 
@@ -57,7 +57,7 @@ record Rights (m : ℕ) (widths : List ℕ) (r : List (List ℕ)) (rs : List (Li
   first : wrong_column 1 widths r ≡ None
   later : bad_row (m + 1) widths rs ≡ None
 
-rights : (m : ℕ) (widths : List ℕ) (r : List (List ℕ)) (rs : List (List (List ℕ))) → bad_row m widths (r ∷ rs) ≡ None → Rights m widths r rs
+pub rights : (m : ℕ) (widths : List ℕ) (r : List (List ℕ)) (rs : List (List (List ℕ))) → bad_row m widths (r ∷ rs) ≡ None → Rights m widths r rs
 rights m widths r rs e = by (wrong_column 1 widths r) refl e
   where
     by : (o : Option ℕ) → wrong_column 1 widths r ≡ o → wrong_row m o (bad_row (m + 1) widths rs) ≡ None → Rights m widths r rs

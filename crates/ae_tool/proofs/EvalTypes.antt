@@ -7,7 +7,7 @@ use Rattle.std.proofs.lemmas.List.Elements.{All-nil, All-cons, All-append}
 use Rattle.std.proofs.lemmas.Bool.Decides.{nat_tests}
 use Rattle.ae_word.specs.AtomTree.{AtomTree, WordKind, word, pair, atom_kinds, atom_words, pair_depth, widths_in_range}
 use Rattle.ae_seqtype.specs.SeqTree.{SeqTree, atom, seq, depth, in_size, kinds, parts_in_size, repeated, seq_tree, words}
-use Rattle.ae_seqtype.proofs.Sizes.{length-kinds}
+use Rattle.ae_seqtype.proofs.Sizes.{length-kinds, one-atom_words as atom_some}
 use Rattle.ae_seq.specs.declared.program.Program.{Program}
 use Rattle.ae_seq.specs.declared.program.Func.{Func}
 use Rattle.ae_seq.specs.declared.program.Param.{Param}
@@ -24,13 +24,9 @@ use Rattle.ae_compile.proofs.Counts.{FewItems, few_at}
 use Rattle.ae_tool.specs.Inputs.{type_widths, widths_of}
 use Rattle.ae_tool.specs.RunTexts.{input_widths}
 use Rattle.std.proofs.lemmas.List.{map-append}
+use Rattle.ae_eval.proofs.Accepting.{both-none as both_none}
 
 -- ---- the parameters' types are in size
-
-both_none : (j : Judged) (v : Verdict) (o : Option Judged) → refused_or j v o ≡ None → (v ≡ fine) × (o ≡ None)
-both_none j fine o h = (refl, h)
-both_none j untyped o h = cc
-both_none j too_large o h = cc
 
 later_none : (xs ys : List Judged) → refused (xs ++ ys) ≡ None → refused ys ≡ None
 later_none [] ys h = h
@@ -53,10 +49,6 @@ sized_params known (g ∷ fs) zero f h e =
 sized_params known (g ∷ fs) (suc k) f h e = sized_params (known ++ signature known g ∷ []) fs k f (later_none (judged_func known g) _ h) e
 
 -- ---- the words of a type in size
-
-atom_some : (a : AtomTree) → 1 ≤ atom_words a
-atom_some (word k) = omega arith
-atom_some (pair a b) = omega (arith, atom_some a)
 
 one_times : (n m : ℕ) → 1 ≤ n → 1 ≤ m → 1 ≤ n * m
 one_times zero m h g = absurd (omega arith)

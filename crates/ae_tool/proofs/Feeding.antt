@@ -9,7 +9,7 @@ use Rattle.std.proofs.lemmas.List.Sums.{length-filter}
 use Rattle.ae_word.specs.AtomTree.{WordKind, atom_kinds}
 use Rattle.ae_seqtype.specs.SeqTree.{SeqTree, atom, seq, atoms, atom_of, kinds, repeated}
 use Rattle.ae_seqtype.specs.ValueTree.{FitKinds}
-use Rattle.ae_seqtype.proofs.Stands.{FitKinds-append, repeated-one, repeated-push}
+use Rattle.ae_seqtype.proofs.Stands.{FitKinds-append, repeated-one, repeated-push, repeated-add as repeated_add, repeated-mul as repeated_mul}
 use Rattle.ae_sttype.specs.StTree.{StTree, lanes, element_atom}
 use Rattle.ae_netlist.specs.declared.cell.Port.{Port}
 use Rattle.ae_netlist.specs.declared.cell.Port.TheVariants.{In}
@@ -32,22 +32,9 @@ use Rattle.ae_tool.specs.EvalRows.{AreBlocks}
 use Rattle.ae_tool.specs.RunTexts.{input_widths}
 use Rattle.ae_tool.proofs.EvalTypes.{same_parameters}
 use Rattle.ae_tool.proofs.Shown.{row_fits}
+use Rattle.ae_eval.proofs.Combining.{kinds-repeated as kinds_again}
 
 -- ---- the words of blocks
-
-repeated_add : {A : Type 0} (n m : ℕ) (xs : List A) → repeated (n + m) xs ≡ repeated n xs ++ repeated m xs
-repeated_add zero m xs = rw (zero-add m) refl
-repeated_add (suc n) m xs = rw (suc-add n m, append_assoc) (ap (λ ys. xs ++ ys) (repeated_add n m xs))
-
-repeated_mul : {A : Type 0} (n m : ℕ) (xs : List A) → repeated (n * m) xs ≡ repeated n (repeated m xs)
-repeated_mul zero m xs = rw (zero-mul m) refl
-repeated_mul (suc n) m xs =
-    let sum : suc n * m ≡ m + n * m = omega arith in
-    rw (sum, repeated_add m (n * m) xs, repeated_mul n m xs) refl
-
-kinds_again : (t : SeqTree) → kinds t ≡ repeated (atoms t) (atom_kinds (atom_of t))
-kinds_again (atom a) = sym (repeated-one (atom_kinds a))
-kinds_again (seq n t) = ap (λ (ks : List WordKind). repeated n ks) (kinds_again t) ∙ sym (repeated_mul n (atoms t) (atom_kinds (atom_of t)))
 
 kinds_laid : (t : SeqTree) (s : StTree) → LaysOut t s → kinds t ≡ value_kinds s
 kinds_laid t s h =

@@ -29,29 +29,11 @@ use Rattle.ae_compile.proofs.Made.{known_arrivals}
 use Rattle.ae_compile.proofs.Mains.{main_nodes}
 use Rattle.ae_tool.specs.PlanTexts.{plan_text, planned_text}
 use Rattle.ae_tool.specs.CostTables.{cost_table, fused_table, table_text}
-
-length_grown : {A B : Type 0} (step : List B → A → B) (known : List B) (xs : List A) → length (grown step known xs) ≡ length known + length xs
-length_grown step known [] = omega arith
-length_grown step known (x ∷ xs) = omega (arith, length_grown step (known ++ step known x ∷ []) xs, length-append known (step known x ∷ []))
+use Rattle.ae_seq.proofs.Items.{length-grown as length_grown}
+use Rattle.ae_retime.proofs.Lists.{arrivals_long as arrivals_many}
 
 timings_many : (known : List OwnCosts) (s : StFuncTree) → length (node_timings known s) ≡ length s.nodes
 timings_many known s = omega (arith, length_grown (next_timing known s) [] s.nodes)
-
-pub arrivals_many : (known : List OwnCosts) (s : StFuncTree) → length (item_arrivals known s) ≡ length (item_layouts s)
-arrivals_many known s =
-    let ts = node_timings known s in
-    let a : length (item_arrivals known s) ≡ length (map (λ (x : StTree). 0) s.ins) + length (map (λ (t : NodeTiming). t.arrival) ts) = length-append
-    (map (λ (x : StTree). 0) s.ins) (map (λ (t : NodeTiming). t.arrival) ts) in
-    let b : length (item_layouts s) ≡ length s.ins + length (node_layouts s.nodes) = length-append s.ins (node_layouts s.nodes) in
-    omega (
-      arith,
-      a,
-      b,
-      length-map {B = ℕ} s.ins (λ (x : StTree). 0),
-      length-map ts (λ (t : NodeTiming). t.arrival),
-      length-map s.nodes (λ (x : StNodeTree). x.type),
-      timings_many known s,
-    )
 
 abbrev pub main_known : List StFuncTree → List OwnCosts
 main_known all = all_costs (take (length all - 1) all)

@@ -6,7 +6,6 @@ use Rattle.ae_fields.proofs.PlainLemmas.{own}
 use Rattle.std.proofs.lemmas.Fmt.{digits_value-decimal}
 use Rattle.std.specs.Fmt.{decimal}
 use Rattle.std.specs.Str.Parse.{digits_value}
-use Rattle.ae_fields.proofs.Bools.{and-first, and-second}
 use Rattle.ae_parse.specs.Cut.{lines, fields, said, put}
 use Rattle.ae_parse.specs.Parts.{is_mark, no_mark, whole_lines}
 use Rattle.ae_parse.specs.Rows.{rows_of, bad_row}
@@ -48,6 +47,8 @@ use Rattle.ae_tool.specs.declared.run.Form.{Form}
 use Rattle.ae_tool.specs.declared.run.Form.TheVariants.{Lines, Dump}
 use Rattle.ae_tool.proofs.CostsAlike.{costs_same, over_same}
 use Rattle.ae_tool.proofs.SimComplete.{sim_complete}
+use Rattle.ae_fields.proofs.PartLemmas.{some-line as some_line}
+use Rattle.ae_seq.proofs.Judging.{left as and-first, right as and-second}
 
 -- the answers of jobs
 abbrev pub is_reply : Status → Bool
@@ -326,17 +327,6 @@ unlines (l ∷ ls) = l ++ 10 ∷ unlines ls
 unlines_put : (b : ℕ) (ls : List (List ℕ)) → 1 ≤ length ls → unlines (put b ls) ≡ b ∷ unlines ls
 unlines_put b [] h = absurd (omega arith)
 unlines_put b (l ∷ ls) h = refl
-
-some_line : (b : ℕ) (bs : List ℕ) → 1 ≤ length (lines (b ∷ bs))
-some_line b bs = by (nat_eq b 10)
-  where
-    put_some : (ps : List (List ℕ)) → 1 ≤ length (put b ps)
-    put_some [] = omega arith
-    put_some (p ∷ ps) = omega arith
-
-    by : (t : Bool) → 1 ≤ length (if t then [] ∷ lines bs else put b (lines bs))
-    by true = omega arith
-    by false = put_some (lines bs)
 
 whole_back : (xs : List ℕ) → whole_lines xs ≡ true → unlines (lines xs) ≡ xs
 whole_back [] w = refl

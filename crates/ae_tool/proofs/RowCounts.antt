@@ -4,11 +4,11 @@ use Rattle.std.proofs.lemmas.Nat.{div-mul-add}
 use Rattle.ae_parse.specs.Cut.{lines, put, fields, said}
 use Rattle.ae_parse.specs.Rows.{rows, rows_of, with_row}
 
-few_put : (b : ℕ) (ls : List (List ℕ)) (n : ℕ) → length ls ≤ n → length (put b ls) ≤ suc n
+pub few_put : (b : ℕ) (ls : List (List ℕ)) (n : ℕ) → length ls ≤ n → length (put b ls) ≤ suc n
 few_put b [] n h = omega arith
 few_put b (l ∷ ls) n h = omega (arith, h)
 
-few_lines : (text : List ℕ) → length (lines text) ≤ length text
+pub few_lines : (text : List ℕ) → length (lines text) ≤ length text
 few_lines [] = omega arith
 few_lines (b ∷ bs) = by (nat_eq b 10) (few_lines bs)
   where
@@ -16,11 +16,11 @@ few_lines (b ∷ bs) = by (nat_eq b 10) (few_lines bs)
     by true h = omega (arith, h)
     by false h = few_put b (lines bs) (length bs) h
 
-few_with : (r : List (List ℕ)) (rs : List (List (List ℕ))) → length (with_row r rs) ≤ suc (length rs)
+pub few_with : (r : List (List ℕ)) (rs : List (List (List ℕ))) → length (with_row r rs) ≤ suc (length rs)
 few_with [] rs = omega arith
 few_with (f ∷ fs) rs = omega arith
 
-few_rows_of : (ls : List (List ℕ)) → length (rows_of ls) ≤ length ls
+pub few_rows_of : (ls : List (List ℕ)) → length (rows_of ls) ≤ length ls
 few_rows_of [] = omega arith
 few_rows_of (l ∷ ls) =
     let a : length (with_row (fields (said l)) (rows_of ls)) ≤ suc (length (rows_of ls)) = few_with (fields (said l)) (rows_of ls) in

@@ -12,7 +12,6 @@ use Rattle.std.proofs.Math.Seq.{drop-append_seam, take-append_seam}
 use Rattle.std.specs.Prelude.{option_map}
 use Rattle.ae_parse.specs.Cut.{lines, put, fields, said}
 use Rattle.ae_parse.specs.Rows.{rows, rows_of, with_row, is_right, wrong_column, wrong_row, bad_row, row_words, words_in}
-use Rattle.ae_fields.proofs.Bools.{and-second}
 use Rattle.ae_netlist.specs.declared.cell.SizedCell.{SizedCell}
 use Rattle.ae_netlist.specs.declared.cell.Cell.TheVariants.{Const}
 use Rattle.ae_netlist.specs.Circuit.{Circuit, IsFormed}
@@ -24,6 +23,9 @@ use Rattle.ae_tool.specs.declared.status.Status.TheVariants.{Ok, LongRun}
 use Rattle.ae_tool.specs.Refusals.{refusal_line}
 use Rattle.ae_tool.specs.RunTexts.{run_limit}
 use Rattle.ae_tool.specs.SimPlaying.{cell_widths, input_rows, AreSimRows, IsNetText, net_size, IsNetSim}
+use Rattle.ae_tool.proofs.EvalSteps.{rights}
+use Rattle.ae_tool.proofs.RowCounts.{few_put, few_lines, few_with, few_rows_of, few_rows}
+use Rattle.ae_seq.proofs.Judging.{right as and-second}
 
 -- ---- rows that are right
 
@@ -55,13 +57,6 @@ right_row (w ∷ ws) j (f ∷ fs) e = by (is_right w f) refl (right_row ws (j + 
 record Rights (m : ℕ) (widths : List ℕ) (r : List (List ℕ)) (rs : List (List (List ℕ))) : Type 0 where
   first : IsRightRow widths (row_words r)
   later : bad_row (m + 1) widths rs ≡ None
-
-rights : (m : ℕ) (widths : List ℕ) (r : List (List ℕ)) (rs : List (List (List ℕ))) → bad_row m widths (r ∷ rs) ≡ None → Rights m widths r rs
-rights m widths r rs e = by (wrong_column 1 widths r) refl e
-  where
-    by : (o : Option ℕ) → wrong_column 1 widths r ≡ o → wrong_row m o (bad_row (m + 1) widths rs) ≡ None → Rights m widths r rs
-    by (Some c) w h = cc
-    by None w h = record { first = right_row widths 1 r w; later = h }
 
 right_at : (m : ℕ) (widths : List ℕ) (table : List (List (List ℕ))) (k : ℕ) → bad_row m widths table ≡ None → k < length table
     → IsRightRow widths (row_words (get_or table k []))
@@ -226,35 +221,6 @@ short_run fill n columns table ws outputs size text a e es le w =
     (a.right, subst (λ k. k ≤ run_limit) same le, w)
 
 -- ---- how many rows there are
-
-few_put : (b : ℕ) (ls : List (List ℕ)) (n : ℕ) → length ls ≤ n → length (put b ls) ≤ suc n
-few_put b [] n h = omega arith
-few_put b (l ∷ ls) n h = omega (arith, h)
-
-few_lines : (text : List ℕ) → length (lines text) ≤ length text
-few_lines [] = omega arith
-few_lines (b ∷ bs) = by (nat_eq b 10) (few_lines bs)
-  where
-    by : (t : Bool) → length (lines bs) ≤ length bs → length (if t then [] ∷ lines bs else put b (lines bs)) ≤ suc (length bs)
-    by true h = omega (arith, h)
-    by false h = few_put b (lines bs) (length bs) h
-
-few_with : (r : List (List ℕ)) (rs : List (List (List ℕ))) → length (with_row r rs) ≤ suc (length rs)
-few_with [] rs = omega arith
-few_with (f ∷ fs) rs = omega arith
-
-few_rows_of : (ls : List (List ℕ)) → length (rows_of ls) ≤ length ls
-few_rows_of [] = omega arith
-few_rows_of (l ∷ ls) =
-    let a : length (with_row (fields (said l)) (rows_of ls)) ≤ suc (length (rows_of ls)) = few_with (fields (said l)) (rows_of ls) in
-    let b : length (rows_of ls) ≤ length ls = few_rows_of ls in
-    omega (arith, a, b)
-
-pub few_rows : (text : List ℕ) → length (rows text) ≤ length text
-few_rows text =
-    let a : length (rows_of (lines text)) ≤ length (lines text) = few_rows_of (lines text) in
-    let b : length (lines text) ≤ length text = few_lines text in
-    omega (arith, a, b)
 
 -- what is known of the rows that were read
 pub read_rows_are : (cells : List SizedCell) (text widths ws : List ℕ) (columns : ℕ) → length text < 2 ^ 32 → widths ≡ cell_widths cells

@@ -41,6 +41,7 @@ use Rattle.ae_correct.proofs.ModulePorts.{mapped_at}
 use Rattle.ae_vcd.specs.Waves.{IsFormedWave, WaveTree, is_graphic, is_variable_name, most_variables, size_limit, wave_size, wave_word}
 use Rattle.ae_vcd.proofs.Written.{decimal_read}
 use Rattle.ae_tool.specs.WaveTexts.{run_wave, variables_of}
+use Rattle.ae_seq.proofs.Judging.{left as both_true}
 
 -- ---- names of ports
 
@@ -169,10 +170,6 @@ plain_output kind.OutWire width word store e h = h
 plain_output kind.Reg width word store e h = h
 plain_output kind.OutReg width word store e h = h
 plain_output (kind.Memory depth) width word store e h = cc
-
-both_true : (a b : Bool) → (a && b) ≡ true → a ≡ true
-both_true true b h = refl
-both_true false b h = h
 
 module _ (lines : ℕ → ℕ) (n : Circuit) (outs : ℕ) (ok : IsWritableNetlist n.cells n.outlets outs) (are : ArePorts lines n outs) (run : List ModuleClock)
     (runs : IsModuleRun (netlist_module lines n.cells n.outlets outs) run) where

@@ -46,6 +46,7 @@ use Rattle.ae_tool.specs.RunTexts.{input_count, layout_columns, output_count, wo
 use Rattle.ae_tool.specs.WaveTexts.{AreWordsOf, IsWaveText, run_wave, variables_of}
 use Rattle.ae_tool.proofs.Columns.{columns_some}
 use Rattle.ae_tool.proofs.Shown.{same_report}
+use Rattle.ae_seq.proofs.Judging.{left as first_true, right as second_true}
 
 -- ---- how many variables
 
@@ -93,14 +94,6 @@ record EndsLine (text : List ℕ) : Type 0 where
 
 line_behind : (a b : List ℕ) → EndsLine b → EndsLine (a ++ b)
 line_behind a b e = record { lines = a ++ e.lines; is = ap (λ x. a ++ x) e.is ∙ sym (append_assoc a e.lines (10 ∷ [])) }
-
-first_true : (a b : Bool) → (a && b) ≡ true → a ≡ true
-first_true true b h = refl
-first_true false b h = h
-
-second_true : (a b : Bool) → (a && b) ≡ true → b ≡ true
-second_true true b h = h
-second_true false b h = cc
 
 no_dollars : (bs : List ℕ) → list_all is_clean bs ≡ true → list_all is_no_dollar bs ≡ true
 no_dollars [] h = refl

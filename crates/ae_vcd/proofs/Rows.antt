@@ -10,7 +10,7 @@ use Rattle.ae_vcd.specs.Machine.{time_of}
 use Rattle.ae_vcd.specs.Readings.{last_given, next_time, times_from, up_to, words_at_time}
 use Rattle.ae_vcd.proofs.Reading.{append_none}
 use Rattle.ae_vcd.specs.Rows.{AllBelow, HasRows, is_quiet, words_now}
-use Rattle.ae_vcd.proofs.Meant.{cut_later, quiet_times, times_append}
+use Rattle.ae_vcd.proofs.Meant.{cut_later, quiet_times, times_append, quiet_time as quiet_same, time_append as time_snoc}
 
 -- ---- a later time stands among the pieces
 
@@ -118,18 +118,6 @@ later_whole t s (Bit b code ∷ ps) l h = (let r : up_to s ps ≡ ps = cc in ap 
 later_whole t s (Binary b digits code ∷ ps) l h = (let r : up_to s ps ≡ ps = cc in ap (λ l. Binary b digits code ∷ l) (later_whole t s ps l r))
 later_whole t s (Silent w ∷ ps) l h = (let r : up_to s ps ≡ ps = cc in ap (λ l. Silent w ∷ l) (later_whole t s ps l r))
 later_whole t s (Comment rest ∷ ps) l h = (let r : up_to s ps ≡ ps = cc in ap (λ l. Comment rest ∷ l) (later_whole t s ps l r))
-
-time_snoc : (before : Option ℕ) (ps qs : List Piece) → time_of before (ps ++ qs) ≡ time_of (time_of before ps) qs
-time_snoc before [] qs = refl
-time_snoc before (p ∷ ps) qs = time_snoc (time_after before p) ps qs
-
-quiet_same : (before : Option ℕ) (ps : List Piece) → is_quiet ps → time_of before ps ≡ before
-quiet_same before [] h = refl
-quiet_same before (Time digits ∷ ps) h = absurd h
-quiet_same before (Bit b code ∷ ps) h = quiet_same before ps h
-quiet_same before (Binary b digits code ∷ ps) h = quiet_same before ps h
-quiet_same before (Silent w ∷ ps) h = quiet_same before ps h
-quiet_same before (Comment rest ∷ ps) h = quiet_same before ps h
 
 -- pieces that are no times change no row of an earlier time
 pub rows_quiet : (vs : List Variable) (ps qs : List Piece) (earlier : List ℕ) (last : ℕ) (rows : List ℕ) → is_quiet qs → HasRows vs ps earlier last rows

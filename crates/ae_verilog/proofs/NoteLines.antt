@@ -9,7 +9,7 @@ use Rattle.std.proofs.lemmas.List.{reverse-append, drop_all}
 use Rattle.std.proofs.lemmas.List.Folds.{find-append}
 use Rattle.ae_verilog.specs.Notes.{NoteTree, line_in, line_of, lines_of, table_line}
 
-not_less : (a b : ℕ) → nat_lt a b ≡ false → b ≤ a
+pub not_less : (a b : ℕ) → nat_lt a b ≡ false → b ≤ a
 not_less a b h = grind (arith, nat_tests)
 
 -- the last of these notes whose cell is at most a net

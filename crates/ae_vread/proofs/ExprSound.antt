@@ -128,7 +128,7 @@ form_found f ts rest tree depth x same formed is_tree is_depth small whole = rec
   whole = whole ∙ ap (λ (y : Found). expr_tokens f ++ y.rest) same;
 }
 
-some_same : {X : Type 0} (a b : X) → Some a ≡ Some b → a ≡ b
+pub some_same : {X : Type 0} (a b : X) → Some a ≡ Some b → a ≡ b
 some_same a b h = cc
 
 -- selects

@@ -18,14 +18,11 @@ use Rattle.ae_vread.specs.declared.module.NetKind.TheVariants.{Input, Wire, OutW
 use Rattle.ae_vtoken.specs.declared.token.Key.TheVariants.{Module as KeyModule, Input as KeyInput, Output as KeyOutput, Wire as KeyWire, Reg as KeyReg, Assign as KeyAssign, Always as KeyAlways, Posedge}
 use Rattle.ae_vtoken.specs.declared.token.Sign.TheVariants.{Open, Close, OpenBracket, CloseBracket, Comma, Semicolon, Colon, At, Equals}
 use Rattle.ae_vread.proofs.TokenFronts.{bind_some, mark_was, word_was, name_was, IsNumber, number_was}
-use Rattle.ae_vread.proofs.ExprSound.{IsReading, whole_sound}
+use Rattle.ae_vread.proofs.ExprSound.{IsReading, whole_sound, some_same}
 use Rattle.ae_vread.proofs.StmtAgain.{free_to}
 use Rattle.ae_vread.proofs.StmtSound.{IsStmt, whole_stmt_sound}
 use Rattle.ae_vread.proofs.ItemAgain.{high_of, net_same, Any, net_out, drive_out, reg_out, drive_nets_of}
 use Rattle.ae_vread.proofs.ListLaws.{singles, IsEntry, IsList, listed_sound, comma_sound}
-
-some_same : {X : Type 0} (a b : X) → Some a ≡ Some b → a ≡ b
-some_same a b h = cc
 
 zero_is : (t : TokenTree) → is_zero t ≡ true → t ≡ Zero
 zero_is Zero h = refl

@@ -12,6 +12,7 @@ use Rattle.ae_vread.specs.declared.module.NetKind.TheVariants.{Wire}
 use Rattle.ae_vread.specs.declared.reader.Held as c
 use Rattle.ae_vread.specs.declared.reader.VFault.{VFault}
 use Rattle.ae_vtoken.specs.declared.token.Key.TheVariants.{EndModule}
+use Rattle.ae_vread.proofs.ExprSound.{some_same}
 
 pub items_first : (m : ℕ) (h : Held) → items m 0 h ≡ items (m - 0) 0 h
 items_first m h = ap (λ n. items n 0 h) (let e : m ≡ m - 0 = omega arith in e)
@@ -44,9 +45,6 @@ drive_nets_more high k (x ∷ ds) (suc i) d within =
 pub nets_more : (vs : List VNet) (v : VNet) → map net_tree (vs ++ v ∷ []) ≡ map net_tree vs ++ net_tree v ∷ []
 nets_more [] v = refl
 nets_more (x ∷ vs) v = ap (λ l. net_tree x ∷ l) (nets_more vs v)
-
-some_same : {X : Type 0} (a b : X) → Some a ≡ Some b → a ≡ b
-some_same a b h = cc
 
 pub drive_step : (high : Option ℕ) (k : ℕ) (ds : List Drive) (i : ℕ) (d : Drive) (vs ws : List VNet) (v : VNet) (n : List ℕ) → i < length ds
     → d ≡ get_or ds i d → n ≡ string_bytes d.name → Some (net_by high Wire k n) ≡ Some (net_tree v) → ws ≡ vs ++ v ∷ []

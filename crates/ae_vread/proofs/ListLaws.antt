@@ -7,6 +7,7 @@ use Rattle.ae_vread.specs.Forms.{comma_tokens}
 use Rattle.ae_vread.specs.TokenTests.{◌>>=◌, after_mark}
 use Rattle.ae_vread.specs.ItemReading.{Entries, Step, by_entry, entries, listed, comma_of, with_comma}
 use Rattle.ae_vread.proofs.TokenFronts.{bind_some, mark_was}
+use Rattle.ae_vread.proofs.ExprSound.{some_same}
 
 pub singles : {X Y : Type 0} (g : X → Y) (xs : List X) → flat_map (λ x. g x ∷ []) xs ≡ map g xs
 singles g [] = refl
@@ -33,9 +34,6 @@ record AreEntries {X F : Type 0} (tokens : F → List TokenTree) (out : F → Li
   fits : AllByRecursion Fits forms
   whole : ts ≡ comma_tokens tokens forms ++ e.1
   same : before ++ flat_map out forms ≡ e.0
-
-some_same : {X : Type 0} (a b : X) → Some a ≡ Some b → a ≡ b
-some_same a b h = cc
 
 module _ {X F : Type 0} (tokens : F → List TokenTree) (out : F → List X) (Fits : F → Type 0)
     -- what may stand behind an entry

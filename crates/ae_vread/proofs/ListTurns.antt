@@ -6,9 +6,7 @@ use Rattle.ae_vread.specs.declared.reading.ReadFault.TheVariants.{Syntax, Memory
 use Rattle.ae_vread.specs.TokenTests.{◌>>=◌}
 use Rattle.ae_vread.specs.ItemReading.{Entries, Step, by_entry, entries, listed}
 use Rattle.ae_vread.specs.ReadView.{Fails}
-
-some_same : {X : Type 0} (a b : X) → Some a ≡ Some b → a ≡ b
-some_same a b h = cc
+use Rattle.ae_vread.proofs.ExprSound.{some_same}
 
 module _ {X : Type 0} (step : Step X) where
   a_turn : (m n : ℕ) (before : List X) (ts : List TokenTree) → n < m

@@ -41,7 +41,7 @@ no_item_read k ts none = elim (item_at k ts) as (λ o. item_at k ts ≡ o → o 
   | Some x ↦ λ e. let item : IsItemRead k ts x = item_was k ts x e in absurd (none item.form x.rest item.is)
 ] refl
 
-some_tokens : (f : ItemForm) → 1 ≤ length (item_tokens f)
+pub some_tokens : (f : ItemForm) → 1 ≤ length (item_tokens f)
 some_tokens (WireItem r n ns) = omega arith
 some_tokens (WireDrives r d ds) = omega arith
 some_tokens (RegItem r first more) = omega arith

@@ -13,11 +13,11 @@ abbrev row_of : Expr → (n : Count) × Row_of-Expr n
 row_of (Concat' _ row) = (_, row)
 row_of _ = (_, end_of-Expr)
 
-behind : (n : _) (row : Row_of-Expr n) (first : ExprTree) → parts_behind first row ≡ concat_behind first (map expr_tree (items-the_row-Expr n row))
+pub behind : (n : _) (row : Row_of-Expr n) (first : ExprTree) → parts_behind first row ≡ concat_behind first (map expr_tree (items-the_row-Expr n row))
 behind n end_of-Expr first = refl
 behind n (more_of-Expr a rest) first = ap (concat_more first) (behind _ rest (expr_tree a))
 
-of_row : (n : _) (row : Row_of-Expr n) → parts_tree row ≡ concat_of (map expr_tree (items-the_row-Expr n row))
+pub of_row : (n : _) (row : Row_of-Expr n) → parts_tree row ≡ concat_of (map expr_tree (items-the_row-Expr n row))
 of_row n end_of-Expr = refl
 of_row n (more_of-Expr a rest) = behind _ rest (expr_tree a)
 
@@ -30,7 +30,7 @@ abbrev stmt_row : Stmt → (n : Count) × Row_of-Stmt n
 stmt_row (Block' _ row) = (_, row)
 stmt_row _ = (_, end_of-Stmt)
 
-of_stmts : (n : _) (row : Row_of-Stmt n) → block_tree row ≡ block_of (map stmt_tree (items-the_row-Stmt n row))
+pub of_stmts : (n : _) (row : Row_of-Stmt n) → block_tree row ≡ block_of (map stmt_tree (items-the_row-Stmt n row))
 of_stmts n end_of-Stmt = refl
 of_stmts n (more_of-Stmt a rest) = ap (block_more (stmt_tree a)) (of_stmts _ rest)
 

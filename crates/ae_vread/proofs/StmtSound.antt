@@ -12,11 +12,8 @@ use Rattle.ae_vread.specs.TokenTests.{◌>>=◌, after_mark, after_word, first_n
 use Rattle.ae_vread.specs.Reading.{Found, found, deeper, whole_expression}
 use Rattle.ae_vread.specs.StmtReading.{StmtFound, stmt_found, Body, body_of, StmtReader, value_then, assigned, set_from, put_place, put_from, put_by, target_from, test_then, either_of, with_else, choice_from, block_of, with_statement, by_end, body, blocked, StmtStart, StartTarget, StartIf, StartBegin, NoStmt, stmt_start, statement_from, statement_at, statement, whole_statement}
 use Rattle.ae_vread.proofs.TokenFronts.{bind_some, mark_was, word_was, IsNumber, number_was}
-use Rattle.ae_vread.proofs.ExprSound.{IsReading, whole_sound, deepened_was}
+use Rattle.ae_vread.proofs.ExprSound.{IsReading, whole_sound, deepened_was, some_same}
 use Rattle.ae_vread.proofs.StmtAgain.{IsFree, stmts_of, block_stmts}
-
-some_same : {X : Type 0} (a b : X) → Some a ≡ Some b → a ≡ b
-some_same a b h = cc
 
 -- an expression up to a sign
 pub record IsValue (s : Sign) (ts : List TokenTree) (x : Found) : Type 0 where

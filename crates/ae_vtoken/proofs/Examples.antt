@@ -30,7 +30,7 @@ slash = refl
 return_in_line : after_gap Between (codes "// a\rb\n c") ≡ codes "c"
 return_in_line = refl
 
-zero_alone : token_of (codes "0") ≡ Some Zero
+pub zero_alone : token_of (codes "0") ≡ Some Zero
 unfolding token_of
 zero_alone = refl
 
@@ -74,7 +74,7 @@ no_dollar_first : token_of (codes "$a") ≡ None
 unfolding token_of signs
 no_dollar_first = refl
 
-key : token_of (codes "endmodule") ≡ Some (Word EndModule)
+pub key : token_of (codes "endmodule") ≡ Some (Word EndModule)
 unfolding token_of keys
 key = refl
 
@@ -86,7 +86,7 @@ case_counts : token_of (codes "Wire") ≡ Some (Name (codes "Wire"))
 unfolding token_of keys unused_0 unused_1 unused_2 unused_3 unused_4 unused_5 unused_6 unused_7 unused_8 unused_9
 case_counts = refl
 
-at_most : token_of (codes "<=") ≡ Some (Mark AtMost)
+pub at_most : token_of (codes "<=") ≡ Some (Mark AtMost)
 unfolding token_of signs
 at_most = refl
 

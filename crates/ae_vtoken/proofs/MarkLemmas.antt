@@ -11,8 +11,9 @@ use Rattle.ae_vtoken.specs.Tokens as tok
 use Rattle.ae_vtoken.specs.Tokens.{Mark, is_word_start, token_of, look_up, IsLongest, NoToken}
 use Rattle.ae_vtoken.specs.Tables.{signs}
 use Rattle.ae_vtoken.specs.Scan.{TokenAt, sign_in_front}
+use Rattle.ae_vtoken.proofs.DecimalLemmas.{none_some}
 
-of_key : {X : Type 0} (q : List ℕ → Bool) (bs : List ℕ) (table : List (List ℕ × X)) (x : X) → look_up bs table ≡ Some x → list_all (λ e. q e.0) table ≡ true
+pub of_key : {X : Type 0} (q : List ℕ → Bool) (bs : List ℕ) (table : List (List ℕ × X)) (x : X) → look_up bs table ≡ Some x → list_all (λ e. q e.0) table ≡ true
     → q bs ≡ true
 of_key q bs [] x h all = cc
 of_key q bs (e ∷ es) x h all =
@@ -50,10 +51,6 @@ sign_token b bs other = cond-false _ _ _ other.0 ∙ cond-false _ _ _ other.1
 
 no_token : (b : ℕ) (bs : List ℕ) → IsOther b → look_up (b ∷ bs) signs ≡ None → token_of (b ∷ bs) ≡ None
 no_token b bs other h = sign_token b bs other ∙ ap (option_map Mark) h
-
-none_some : {X : Type 0} (o : Option X) → o ≡ None → IsSome o → ⊥
-none_some None e some = cc
-none_some (Some x) e some = cc
 
 two_longest : (b c : ℕ) (rest : List ℕ) → IsOther b → IsLongest (b ∷ c ∷ []) rest
 two_longest b c rest other [] after e some = refl

@@ -9,6 +9,7 @@ use Rattle.std.proofs.lemmas.Option.{cond_some}
 use Rattle.std.proofs.lemmas.Slice.Eq.{bytes_eq-Decides}
 use Rattle.ae_vtoken.specs.Tables.{signs}
 use Rattle.ae_vtoken.specs.Tokens.{TokenTree, Mark, look_up, is_blank, is_word_start, is_word_byte, after_gap, Between, base_of, are_digits, sized_of, number_from, token_of, IsLongest, AreTokens, No_more, Then}
+use Rattle.ae_vtoken.proofs.MarkLemmas.{of_key}
 
 -- a blank, or a sign that is a part of no longer sign
 abbrev pub lones : List ℕ
@@ -43,17 +44,6 @@ all_plain_from q [] table h = refl
 all_plain_from q (b ∷ bs) table h =
     let parts = and_parts (q b) (list_all q bs) h in
     and_from _ _ (plain_from q b table parts.0) (all_plain_from q bs table parts.1)
-
--- what a table's key passes
-pub of_key : {X : Type 0} (q : List ℕ → Bool) (bs : List ℕ) (table : List (List ℕ × X)) (x : X) → look_up bs table ≡ Some x
-    → list_all (λ e. q e.0) table ≡ true → q bs ≡ true
-of_key q bs [] x h all = cc
-of_key q bs (e ∷ es) x h all =
-    let parts = and_parts (q e.0) (list_all (λ e. q e.0) es) all in
-    elim (cases_Bool (bytes_eq bs e.0)) [
-      | inl same ↦ ap q ((bytes_eq-Decides bs e.0).0 same) ∙ parts.0
-      | inr other ↦ of_key q bs es x (sym (cond-false _ _ _ other) ∙ h) parts.1
-    ]
 
 -- one byte, or plain bytes alone
 abbrev pub holds_together : List ℕ → Bool

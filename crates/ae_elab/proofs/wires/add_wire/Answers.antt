@@ -6,8 +6,9 @@ use Rattle.ae_order.specs.Drives.{values_of}
 use Rattle.ae_judge.proofs.Members.{among_from}
 use Rattle.ae_order.proofs.DriveLaws.{values_long, values_sound}
 use Rattle.ae_order.proofs.SoundOf.{sized}
-use Rattle.ae_elab.proofs.Wiring.{keeps_set, open_less, some_at, value_ready, wiring_more, wiring_same}
+use Rattle.ae_elab.proofs.Wiring.{keeps_set, open_less, value_ready, wiring_more, wiring_same}
 use Rattle.ae_elab.proofs.wires.add_wire.Goals as goal
+use Rattle.ae_judge.proofs.PlaceLemmas.{get_within as some_at}
 
 pub value_at-requires : goal.value_at-requires
 value_at-requires c =

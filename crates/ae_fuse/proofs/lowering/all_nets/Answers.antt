@@ -6,7 +6,6 @@ use Rattle.ae_sttype.specs.StTree.{st_tree}
 use Rattle.ae_moves.specs.Origins.{IsMove, Move, move_latency}
 use Rattle.ae_moves.proofs.Lists.{get_mapped, sum_part}
 use Rattle.ae_ops.specs.Blocks.{AreBundles}
-use Rattle.ae_ops.proofs.Lateness.{keeps_trans}
 use Rattle.ae_ports.specs.Ports.{streams_of}
 use Rattle.ae_rewrite.specs.StProgramTree.{st_trees}
 use Rattle.ae_tidy.specs.Places.{AreMarks}
@@ -21,6 +20,7 @@ use Rattle.ae_fuse.specs.Fused.{result_move}
 use Rattle.ae_fuse.specs.Lowered.{IsLateResult}
 use Rattle.ae_fuse.proofs.LateResults.{load_next, mems_next, results_next}
 use Rattle.ae_fuse.proofs.lowering.all_nets.Goals as goal
+use Rattle.ae_clocked.proofs.InRow.{keeps_trans}
 
 same_end : (k n : ℕ) → k ≤ n → n ≤ k → k ≡ n
 same_end k n h l = omega arith

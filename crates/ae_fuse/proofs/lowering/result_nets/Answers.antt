@@ -5,11 +5,11 @@ use Rattle.ae_moves.specs.Origins.{move_latency}
 use Rattle.ae_gather.specs.Gathers.{move_of}
 use Rattle.ae_ops.specs.Waves.{AreLate, AreNets}
 use Rattle.ae_ops.specs.Blocks.{stream_of, stream_widths}
-use Rattle.ae_ops.proofs.Lateness.{keeps_trans}
 use Rattle.ae_lower.specs.Growth.{Adds, GrowsBy}
 use Rattle.ae_lower.proofs.Outputs.{own_widths}
 use Rattle.ae_fuse.proofs.LateResults.{part_small, result_adds, result_grows, result_late}
 use Rattle.ae_fuse.proofs.lowering.result_nets.Goals as goal
+use Rattle.ae_clocked.proofs.InRow.{keeps_trans}
 
 pub later-requires-clause-nets : goal.later-requires-clause-nets
 later-requires-clause-nets c = own_widths c.in-Ok.ensures.bundle

@@ -1,7 +1,7 @@
 use Rattle.std.proofs.Common.{◌+◌, ◌∷◌, ◌++◌, [], ◌∙◌, ap, sym, arith}
 use Rattle.std.specs.List.{range_with_len}
-use Rattle.ae_fuse.proofs.NumberSteps.{range-push}
 use Rattle.ae_fuse.proofs.numbers.numbers.Goals as goal
+use Rattle.ae_moves.proofs.Held.{range_more as range-push}
 
 pub loop-k-preserved : goal.loop-k-preserved
 loop-k-preserved c = record {

@@ -8,10 +8,11 @@ use Rattle.ae_rewrite.specs.Sound.{item_layout, item_layouts}
 use Rattle.ae_flow.specs.Flow.{words_at}
 use Rattle.ae_fuse.specs.Labels.{labelled_origin}
 use Rattle.ae_fuse.specs.Moved.{own_labels}
-use Rattle.ae_fuse.proofs.ItemSteps.{layout-of-node, node-moving}
+use Rattle.ae_fuse.proofs.ItemSteps.{node-moving}
 use Rattle.ae_fuse.proofs.NodeSteps.{long-here, own-here, ready-here, size-here}
 use Rattle.ae_fuse.proofs.ResultSteps.{a_move}
 use Rattle.ae_fuse.proofs.tracing.trace_node.Goals as goal
+use Rattle.ae_flow.proofs.Flowing.{node_layout as layout-of-node}
 
 pub node_labels-requires-clause-ready : goal.node_labels-requires-clause-ready
 node_labels-requires-clause-ready c =

@@ -10,10 +10,11 @@ use Rattle.ae_flow.specs.Flow.{words_at}
 use Rattle.ae_fuse.specs.Labels.{layout_numbers}
 use Rattle.ae_fuse.specs.Moved.{own_labels, own_move}
 use Rattle.ae_fuse.specs.Wanted.{KeepWanted}
-use Rattle.ae_fuse.proofs.ItemSteps.{count-items, input-sized, numbers-many}
+use Rattle.ae_fuse.proofs.ItemSteps.{input-sized, numbers-many}
 use Rattle.ae_fuse.proofs.NodeSteps.{arrivals-agree, front, live-next, move-agree}
 use Rattle.ae_fuse.proofs.ResultSteps.{arrivals-next}
 use Rattle.ae_fuse.proofs.tracing.traced.Goals as goal
+use Rattle.ae_retime.proofs.Lists.{layouts_long as count-items}
 
 pub label_clocks-requires : goal.label_clocks-requires
 label_clocks-requires c =

@@ -1,13 +1,13 @@
 -- One counter or two.
 use Rattle.std.proofs.Common.{ℕ, ◌*◌, min, ◌≡◌, ◌+◌, ◌-◌, ◌%◌, ◌≤◌, false, length, arith, rules, ap, ◌∙◌}
 use Rattle.ae_clocked.proofs.Adding.{adds_most, adds_trans}
-use Rattle.ae_ops.proofs.Lateness.{keeps_trans}
 use Rattle.ae_gather.specs.Columns.{IsPhaseNet}
 use Rattle.ae_gather.specs.Early.{is_early}
 use Rattle.ae_gather.proofs.Choosing.{phase_grows}
 use Rattle.ae_gather.proofs.Earliness.{all_false, all_true, two_flags}
 use Rattle.ae_gather.proofs.Scheduled.{has_either, has_later, has_sooner}
 use Rattle.ae_gather.proofs.counters.counters.Goals as goal
+use Rattle.ae_clocked.proofs.InRow.{keeps_trans}
 
 pub returns-in_err-only-clause-belongs : goal.returns-in_err-only-clause-belongs
 returns-in_err-only-clause-belongs c = c.in_err-only.ensures.belongs

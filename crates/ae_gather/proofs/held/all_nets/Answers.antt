@@ -6,11 +6,11 @@ use Rattle.ae_clocked.proofs.Added.{own_net}
 use Rattle.ae_clocked.proofs.Adding.{adds_most, adds_none, adds_trans}
 use Rattle.ae_clocked.proofs.Belonging.{keeps_same}
 use Rattle.ae_moves.proofs.Held.{sum_more}
-use Rattle.ae_ops.proofs.Lateness.{keeps_trans}
 use Rattle.ae_gather.specs.Held.{is_kept}
 use Rattle.ae_gather.proofs.Keeping.{kept_begin, kept_more, kept_whole}
 use Rattle.ae_gather.proofs.Memories.{sums_part}
 use Rattle.ae_gather.proofs.held.all_nets.Goals as goal
+use Rattle.ae_clocked.proofs.InRow.{keeps_trans}
 
 pub kept_net-requires-clause-belongs : goal.kept_net-requires-clause-belongs
 kept_net-requires-clause-belongs c = c.loop-q.invariant.belongs

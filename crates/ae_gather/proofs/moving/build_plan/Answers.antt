@@ -5,13 +5,13 @@ use Rattle.ae_netlist.proofs.Growing.{net_later}
 use Rattle.ae_clocked.specs.Delays.{line_cells}
 use Rattle.ae_clocked.proofs.Adding.{grows_trans}
 use Rattle.ae_clocked.proofs.Belonging.{belongs_grows}
-use Rattle.ae_ops.proofs.Lateness.{keeps_trans}
 use Rattle.ae_gather.specs.Plans.{IsPlan, line_mems, steps_cells}
 use Rattle.ae_gather.proofs.Building.{begun_of, fitting_grows, steps_ready}
 use Rattle.ae_gather.proofs.Choosing.{phase_grows}
 use Rattle.ae_gather.proofs.Hastened.{clocks_hastened, fitting_hastened, used_hastened}
 use Rattle.ae_gather.proofs.Scheduled.{columns_trips, columns_nets, has_grows}
 use Rattle.ae_gather.proofs.moving.build_plan.Goals as goal
+use Rattle.ae_clocked.proofs.InRow.{keeps_trans}
 
 -- ---- what is added, from what the counters, the lines and the columns add
 

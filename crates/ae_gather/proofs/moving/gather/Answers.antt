@@ -5,7 +5,6 @@ use Rattle.ae_clocked.specs.Signals.{Adds}
 use Rattle.ae_clocked.proofs.Adding.{grows_trans}
 use Rattle.ae_moves.specs.Rings.{AreHeld}
 use Rattle.ae_moves.specs.Trees.{trip_tree}
-use Rattle.ae_ops.proofs.Lateness.{keeps_trans}
 use Rattle.ae_gather.specs.Held.{AreKept, kept_count, settled}
 use Rattle.ae_gather.specs.Plans.{AreWithin}
 use Rattle.ae_gather.proofs.Building.{begun_of, fitting_grows}
@@ -14,6 +13,7 @@ use Rattle.ae_gather.proofs.Hastened.{used_hastened}
 use Rattle.ae_gather.proofs.Memories.{trees_within}
 use Rattle.ae_gather.proofs.Settled.{delay_all, fitting_settled, kept_few, kept_grows, kept_nets, mems_all, order_settled, runs_settled, trips_settled, used_settled, within_settled}
 use Rattle.ae_gather.proofs.moving.gather.Goals as goal
+use Rattle.ae_clocked.proofs.InRow.{keeps_trans}
 
 below_limit : (a b n : ℕ) → a < b → b ≤ n → a < n
 below_limit a b n h l = omega arith

@@ -6,9 +6,9 @@ use Rattle.ae_netlist.proofs.Growing.{net_later}
 use Rattle.ae_clocked.proofs.Added.{own_net}
 use Rattle.ae_clocked.proofs.Making.{memories_most, memories_trans}
 use Rattle.ae_moves.proofs.Lists.{sum_next, sum_part}
-use Rattle.ae_ops.proofs.Lateness.{keeps_trans}
 use Rattle.ae_gather.proofs.Ringing.{rings_more}
 use Rattle.ae_gather.proofs.reading.all_rings.Goals as goal
+use Rattle.ae_clocked.proofs.InRow.{keeps_trans}
 
 pub ring_of-requires-clause-net : goal.ring_of-requires-clause-net
 ring_of-requires-clause-net c = own_net (net_later c.loop-q.invariant.adds.grows.extends (c.requires.nets c.loop-q.q c.loop-q-test.true).1)

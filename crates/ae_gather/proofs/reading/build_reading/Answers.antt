@@ -4,7 +4,6 @@ use Rattle.std.proofs.lemmas.List.{length-map}
 use Rattle.ae_netlist.proofs.Growing.{net_later}
 use Rattle.ae_clocked.proofs.Adding.{grows_trans}
 use Rattle.ae_clocked.proofs.Belonging.{belongs_grows}
-use Rattle.ae_ops.proofs.Lateness.{keeps_trans}
 use Rattle.ae_gather.specs.Plans.{AreWithin}
 use Rattle.ae_gather.specs.Readers.{AreReads}
 use Rattle.ae_gather.specs.Reads.{read_trip}
@@ -13,6 +12,7 @@ use Rattle.ae_gather.proofs.Rereads.{fitting_read, placed_trip, trips_read, used
 use Rattle.ae_gather.proofs.Ringing.{reads_later, reads_nets, rings_grow}
 use Rattle.ae_gather.proofs.Showing.{fits_placed, shows_later}
 use Rattle.ae_gather.proofs.reading.build_reading.Goals as goal
+use Rattle.ae_clocked.proofs.InRow.{keeps_trans}
 
 -- ---- room for what rings, places, reads and the plan take
 

@@ -9,8 +9,9 @@ use Rattle.ae_judge.specs.Widths.{own_width}
 use Rattle.ae_judge.specs.Faults.{is_too_wide}
 use Rattle.ae_judge.proofs.Parts.{concat_of, parts_lettered, parts_view}
 use Rattle.ae_judge.proofs.Loops.{any_found, any_next, any_end, any_map, all_map_at}
-use Rattle.ae_judge.proofs.Wide.{own_concat, wide_concat, capped_next, capped_end, or_first, where_none, wide_sum, narrow_sum}
+use Rattle.ae_judge.proofs.Wide.{own_concat, wide_concat, capped_next, capped_end, where_none, wide_sum, narrow_sum}
 use Rattle.ae_judge.proofs.widths.+wide.Goals as goal
+use Rattle.ae_judge.proofs.Doubled.{or_left as or_first}
 
 pub total_within-width_within-requires : goal.total_within-width_within-requires
 total_within-width_within-requires t c =

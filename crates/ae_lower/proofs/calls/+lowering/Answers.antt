@@ -4,7 +4,6 @@ use Rattle.std.proofs.lemmas.Option.{same_Some, slice_get_within}
 use Rattle.std.proofs.lemmas.Result.{on_ok_weaker}
 use Rattle.ae_netlist.specs.declared.cell.NetId.{NetId}
 use Rattle.ae_ops.specs.Blocks.{AreBundles}
-use Rattle.ae_ops.proofs.Lateness.{keeps_trans}
 use Rattle.ae_rewrite.specs.StProgramTree.{StFuncTree, body, st_func_tree, st_func_trees, st_node_tree, st_op_tree}
 use Rattle.ae_rewrite.specs.Sound.{item_layouts}
 use Rattle.ae_delay.specs.declared.own.OwnCosts.{OwnCosts}
@@ -32,6 +31,7 @@ use Rattle.ae_clocked.specs.KeptRings.{RingsBelong}
 use Rattle.ae_clocked.proofs.Keeping.{no_rings, rings_grow}
 use Rattle.ae_lower.proofs.Waiting.{chains_long, layouts_small, left_first}
 use Rattle.ae_lower.proofs.calls.+lowering.Goals as goal
+use Rattle.ae_clocked.proofs.InRow.{keeps_trans}
 
 pub lower_bodies-returns-in_err-own-clause-belongs : goal.lower_bodies-returns-in_err-own-clause-belongs
 lower_bodies-returns-in_err-own-clause-belongs t c = c.loop-lane.invariant.belongs

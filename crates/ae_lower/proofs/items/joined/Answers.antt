@@ -2,10 +2,10 @@
 use Rattle.std.proofs.Common.{◌≡◌, length, take, arith}
 use Rattle.std.proofs.lemmas.List.{length-take-le, take_all, take_more}
 use Rattle.ae_clocked.proofs.Adding.{grows_refl}
-use Rattle.ae_ops.proofs.Lateness.{keeps_trans}
 use Rattle.ae_lower.proofs.Growing.{by_trans, keeps_none, spends_none, spends_trans, spends_up}
 use Rattle.ae_lower.proofs.Delaying.{delay_more, delay_most, delayed_more, delayed_none, item_at, own_grow}
 use Rattle.ae_lower.proofs.items.joined.Goals as goal
+use Rattle.ae_clocked.proofs.InRow.{keeps_trans}
 
 pub waited-requires-clause-nets : goal.waited-requires-clause-nets
 waited-requires-clause-nets c =

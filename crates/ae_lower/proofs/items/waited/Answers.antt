@@ -4,10 +4,11 @@ use Rattle.std.proofs.Math.Nat.{mul-le-mul_left}
 use Rattle.ae_netlist.specs.Circuit.{Circuit}
 use Rattle.ae_clocked.specs.KeptRings.{AddsRings}
 use Rattle.ae_clocked.proofs.Keeping.{no_rings_added, rings_most, rings_trans}
-use Rattle.ae_ops.proofs.Lateness.{keeps_trans, late_of, nets_of, own_later, same_width, tapped_all, tapping_more, tapping_none, there}
+use Rattle.ae_ops.proofs.Lateness.{late_of, nets_of, own_later, same_width, tapped_all, tapping_more, tapping_none, there}
 use Rattle.ae_lower.specs.Growth.{GrowsBy}
 use Rattle.ae_lower.proofs.Growing.{keeps_none, rings_by, rings_spend}
 use Rattle.ae_lower.proofs.items.waited.Goals as goal
+use Rattle.ae_clocked.proofs.InRow.{keeps_trans}
 
 abbrev next_tap : {a b d : Circuit} {u v w : ℕ} (slack k : ℕ) → AddsRings a b (16 * (slack * k)) u v → AddsRings b d (16 * slack) v w
     → AddsRings a d (16 * (slack * (k + 1))) u w

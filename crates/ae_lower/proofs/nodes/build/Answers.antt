@@ -14,11 +14,12 @@ use Rattle.ae_rewrite.specs.Sound.{item_layout, item_layouts}
 use Rattle.ae_delay.specs.Moving.{constant_move, op_move}
 use Rattle.ae_lower.specs.Growth.{GrowsBy}
 use Rattle.ae_lower.specs.Parts.{part_behind}
-use Rattle.ae_lower.proofs.Placing.{if_made, node_adds, node_built, node_bundles, node_grows}
+use Rattle.ae_lower.proofs.Placing.{node_adds, node_built, node_bundles, node_grows}
 use Rattle.ae_lower.proofs.Folded.{fold_typed}
 use Rattle.ae_lower.proofs.Ready.{argument_at, fixed_node, fold_follows, fold_node, fold_shape, fold_short, move_node, only_low, ready_below, ready_item, ready_move, ready_some, scan_node}
 use Rattle.ae_lower.proofs.WireNodes.{join_built, part_built}
 use Rattle.ae_lower.proofs.nodes.build.Goals as goal
+use Rattle.ae_lower.proofs.Growing.{if_ok_more as if_made}
 
 -- ---- where no cell is added
 

@@ -3,8 +3,8 @@ use Rattle.ae_gather.specs.Gathers.{gather_part, move_of}
 use Rattle.ae_reduce.specs.Reduces.{reduce_part}
 use Rattle.ae_clocked.proofs.Adding.{grows_trans}
 use Rattle.ae_lower.proofs.Behind.{behind_law}
-use Rattle.ae_ops.proofs.Lateness.{keeps_trans}
 use Rattle.ae_lower.proofs.nodes.fold_and_move.Goals as goal
+use Rattle.ae_clocked.proofs.InRow.{keeps_trans}
 
 part_room : (a b m n : ℕ) → b ≤ a + m → b ≤ a + (m + n)
 part_room a b m n h = omega arith

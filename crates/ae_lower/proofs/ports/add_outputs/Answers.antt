@@ -9,9 +9,9 @@ use Rattle.ae_ops.specs.Waves.{AreNets, HaveOwnWidths}
 use Rattle.ae_ops.specs.Blocks.{stream_of, stream_widths}
 use Rattle.ae_ports.specs.Ports.{lane_ports}
 use Rattle.ae_lower.specs.PortNets.{AddsOutputs}
-use Rattle.ae_lower.proofs.Inputs.{widths_long}
 use Rattle.ae_lower.proofs.Outputs.{columns_long, lane_inside, lanes_more, outputs_cells, own_widths, stretch_own}
 use Rattle.ae_lower.proofs.ports.add_outputs.Goals as goal
+use Rattle.ae_ports.proofs.Columns.{element_columns as widths_long}
 
 pub offset_bounds-nets-first : goal.offset_bounds-nets-first
 offset_bounds-nets-first c =

@@ -5,9 +5,11 @@ use Rattle.ae_netlist.specs.declared.cell.Port.TheVariants.{In}
 use Rattle.ae_sttype.specs.StTree.{element_words, st_tree}
 use Rattle.ae_ops.specs.Blocks.{stream_of}
 use Rattle.ae_ports.specs.Ports.{lane_ports}
-use Rattle.ae_lower.proofs.Inputs.{inputs_limit, inputs_long, lanes_more, length-lane_ports, sized_atom, widths_long}
+use Rattle.ae_lower.proofs.Inputs.{inputs_limit, inputs_long, lanes_more, length-lane_ports}
 use Rattle.ae_lower.proofs.Outputs.{lane_inside}
 use Rattle.ae_lower.proofs.ports.param_inputs.Goals as goal
+use Rattle.ae_fold.proofs.Kinding.{sized_atom}
+use Rattle.ae_ports.proofs.Columns.{element_columns as widths_long}
 
 pub lane_inputs-requires-clause-in_size : goal.lane_inputs-requires-clause-in_size
 lane_inputs-requires-clause-in_size c =

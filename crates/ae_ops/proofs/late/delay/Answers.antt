@@ -2,8 +2,9 @@
 use Rattle.std.proofs.Common.{ℕ, ◌≡◌, ◌∙◌, ◌+◌, ◌*◌, ◌++◌, ◌∷◌, [], arith, refl}
 use Rattle.ae_clocked.proofs.Adding.{grows_trans}
 use Rattle.ae_clocked.specs.Rings.{rings}
-use Rattle.ae_ops.proofs.Lateness.{cells_within, keeps_trans, late_of, line_one, nets_of, own_later, rings_one, same_width, tapped_all, tapping_more, there}
+use Rattle.ae_ops.proofs.Lateness.{cells_within, late_of, line_one, nets_of, own_later, rings_one, same_width, tapped_all, tapping_more, there}
 use Rattle.ae_ops.proofs.late.delay.Goals as goal
+use Rattle.ae_clocked.proofs.InRow.{keeps_trans}
 
 pub ring_line-requires-clause-net : goal.ring_line-requires-clause-net
 ring_line-requires-clause-net c =

@@ -4,13 +4,14 @@ use Rattle.std.proofs.Common.{◌≡◌, ◌+◌, ◌∷◌, [], length, length-
 use Rattle.ae_netlist.specs.declared.cell.SizedCell.{SizedCell}
 use Rattle.ae_netlist.specs.Circuit.{Circuit}
 use Rattle.ae_netlist.proofs.Growing.{net_later}
-use Rattle.ae_streamed.proofs.Cells.{last_choice, longer_by, longer_length, longer_refl, longer_trans, net_within}
+use Rattle.ae_streamed.proofs.Cells.{last_choice, longer_by, longer_length, longer_refl, longer_trans}
 use Rattle.ae_streamed.specs.Cells.{choice}
 use Rattle.ae_streamed.specs.Controls.{HasAny, row}
 use Rattle.ae_streamed.proofs.Standing.{any_more, any_none}
 use Rattle.ae_streamed.proofs.Tables.{fit}
 use Rattle.ae_streamed.proofs.Tables.Fit.{before, none}
 use Rattle.ae_streamed.proofs.parts.any_of.Goals as goal
+use Rattle.ae_clocked.proofs.Added.{net_within}
 
 pub loop-k-init : goal.loop-k-init
 loop-k-init c = record {

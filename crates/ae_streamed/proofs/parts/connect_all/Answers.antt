@@ -1,8 +1,9 @@
 -- Each turn connects one register more.
 use Rattle.std.proofs.Common.{◌+◌, arith}
 use Rattle.std.proofs.lemmas.Option.{slice_get_within}
-use Rattle.ae_streamed.proofs.Cells.{connected_none, connected_more, net_own, net_within, own_register, register_width, still_register}
+use Rattle.ae_streamed.proofs.Cells.{connected_none, connected_more, still_register}
 use Rattle.ae_streamed.proofs.parts.connect_all.Goals as goal
+use Rattle.ae_clocked.proofs.Added.{register_width, own_register, net_own, net_within}
 
 pub loop-k-init : goal.loop-k-init
 loop-k-init c = connected_none c.args.nl.now c.args.first c.args.next

@@ -4,9 +4,9 @@ use Rattle.std.proofs.Common.{◌≡◌, length, arith}
 use Rattle.ae_netlist.proofs.Growing.{net_later}
 use Rattle.ae_streamed.specs.Controls.{net}
 use Rattle.ae_streamed.proofs.Cells.{found_at}
-use Rattle.ae_streamed.proofs.Queueing.{own_width}
 use Rattle.ae_streamed.proofs.Queued.{all_columns, some_more, some_none}
 use Rattle.ae_streamed.proofs.queues.columns.Goals as goal
+use Rattle.ae_clocked.proofs.Added.{own_net as own_width}
 
 pub loop-k-init : goal.loop-k-init
 loop-k-init c = some_none c.args.nl.now c.args.c c.args.made.now

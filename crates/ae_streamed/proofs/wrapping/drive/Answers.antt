@@ -4,8 +4,8 @@ use Rattle.std.proofs.Common.{◌+◌, ◌*◌, arith, length, ap, sym, ◌∙�
 use Rattle.ae_netlist.specs.Circuit.{IsNet, width_of}
 use Rattle.ae_netlist.proofs.Growing.{net_later}
 use Rattle.ae_streamed.proofs.Copied.{has_driver}
-use Rattle.ae_streamed.proofs.Queueing.{own_width}
 use Rattle.ae_streamed.proofs.wrapping.drive.Goals as goal
+use Rattle.ae_clocked.proofs.Added.{own_net as own_width}
 
 pub columns-requires-clause-nets : goal.columns-requires-clause-nets
 columns-requires-clause-nets c = λ k net found. own_width (net_later c.in_ok-c.ensures.longer.extends (c.requires.nets k net found))

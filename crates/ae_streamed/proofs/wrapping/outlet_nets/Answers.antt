@@ -3,8 +3,9 @@ use Rattle.std.proofs.Common.{◌∷◌, ◌++◌, [], take, ap, sym, ◌∙◌}
 use Rattle.ae_netlist.specs.declared.cell.Outlet.{Outlet}
 use Rattle.ae_stall.specs.Images.{placed_net}
 use Rattle.ae_streamed.specs.Between.{copied_nets}
-use Rattle.ae_streamed.proofs.Cells.{net_within, next_first}
+use Rattle.ae_streamed.proofs.Cells.{next_first}
 use Rattle.ae_streamed.proofs.wrapping.outlet_nets.Goals as goal
+use Rattle.ae_clocked.proofs.Added.{net_within}
 
 pub placed-net-requires-clause-there : goal.placed-net-requires-clause-there
 placed-net-requires-clause-there c = net_within (c.formed.ensures.outlets.each c.loop-k.k c.outlet_at-outlet.result c.outlet_at-outlet.ensures)

@@ -1,10 +1,9 @@
 -- Each turn shows one queue more.
 use Rattle.std.proofs.Common.{◌+◌, ◌*◌, ap, sym, ◌∙◌, arith, subst}
 use Rattle.ae_netlist.specs.Circuit.{Circuit, IsNet, width_of}
-use Rattle.ae_streamed.proofs.Cells.{net_within}
 use Rattle.ae_streamed.proofs.Copied.{all_shown, shown_more, shown_none}
-use Rattle.ae_streamed.proofs.Queueing.{own_width}
 use Rattle.ae_streamed.proofs.wrapping.show_all.Goals as goal
+use Rattle.ae_clocked.proofs.Added.{net_within, own_net as own_width}
 
 pub show-requires-clause-net : goal.show-requires-clause-net
 show-requires-clause-net c = own_width c.requires.asks
