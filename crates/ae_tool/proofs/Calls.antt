@@ -1,15 +1,15 @@
 -- What follows from how a call may go.
 use Rattle.std.proofs.Common.{ℕ, ◌≡◌, ◌+◌, ◌<◌, ◌≤◌, ◌⊎◌, inl, inr, true, false, List, [], length, take, Option, Some, None, IfSome, arith, refl, ap, sym, ◌∙◌, subst}
 use Rattle.std.proofs.lemmas.List.{take_all}
-use Rattle.ae_io.specs.Counts.{Rose, Same, raised}
+use Rattle.ae_io.specs.Counts.{Rose, raised}
 use Rattle.ae_io.specs.Told.{Appends, TakesCount}
 use Rattle.ae_io.specs.Transfer.{TakesAll}
-use Rattle.ae_tool.specs.declared.status.Status.{Status}
-use Rattle.ae_tool.specs.declared.status.Status.TheVariants.{Ok, Usage, BadLine, BadType, TooLarge, NoSchedule, BadWords, BadModule, LongRun, ReadFault, WriteFault, TooLong, Memory, BadWave, NotMoves}
+use Rattle.ae_jobs.specs.declared.status.Status.{Status}
+use Rattle.ae_jobs.specs.declared.status.Status.TheVariants.{Ok, Usage, BadLine, BadType, TooLarge, NoSchedule, BadWords, BadModule, LongRun, ReadFault, WriteFault, TooLong, Memory, BadWave, NotMoves}
 use Rattle.ae_tool.specs.declared.command.Command.{Command}
 use Rattle.ae_tool.specs.declared.command.Command.TheVariants.{Check, Eval, Plan, Cost, Least, Build, Stall, Run, Wave, Unwave, Sim, Demo}
 use Rattle.ae_tool.specs.Commands.{IsCommand, NamesNone, TakesInput}
-use Rattle.ae_tool.specs.Refusals.{refusal_line}
+use Rattle.ae_jobs.specs.Refusals.{refusal_line}
 use Rattle.ae_tool.specs.Outcomes.{input_limit, IsAnswer, IsDone, IsOutcome, is_settled, HasOutcome, MayBeWritten, HasPart, LeavesRest, LeavesInput, RefusesWords, IsAccepted}
 use Rattle.ae_tool.proofs.Replies.{is_reply, done_replies, done_of_accepted, same_command}
 use Rattle.ae_tool.specs.Answers.{SourceView, SinkView, IsEnded, Puts, Whole, Failing, Wanting, Refuses, IsMade, Demo_whole, Demo_none, Answers, No_job, Made, Unread, Past_limit, Done, No_room}

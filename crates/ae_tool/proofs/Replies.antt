@@ -1,5 +1,5 @@
 -- What a job answers, and that an input is cut in one way alone.
-use Rattle.std.proofs.Common.{ℕ, ◌≡◌, ◌<◌, ◌≤◌, Bool, true, false, not, List, [], ◌∷◌, ◌++◌, length, map, take, drop, Option, Some, None, arith, inl, inr, refl, ap, sym, ◌∙◌, subst, nat_eq, bytes_eq, codes, if◌then◌else◌}
+use Rattle.std.proofs.Common.{ℕ, ◌≡◌, ◌<◌, ◌≤◌, Bool, true, false, not, List, [], ◌∷◌, ◌++◌, length, take, drop, Option, None, arith, refl, ap, sym, ◌∙◌, subst, nat_eq, bytes_eq, codes, if◌then◌else◌}
 use Rattle.std.proofs.lemmas.Bool.{eqb-true}
 use Rattle.std.proofs.lemmas.Option.{none-some}
 use Rattle.ae_fields.proofs.PlainLemmas.{own}
@@ -10,43 +10,41 @@ use Rattle.ae_parse.specs.Cut.{lines, fields, said, put}
 use Rattle.ae_parse.specs.Parts.{is_mark, no_mark, whole_lines}
 use Rattle.ae_parse.specs.Rows.{rows_of, bad_row}
 use Rattle.ae_seq.specs.ProgramTree.{ProgramTree}
-use Rattle.ae_tool.specs.declared.status.Status.{Status}
-use Rattle.ae_tool.specs.declared.status.Status.TheVariants.{Ok, Usage, BadLine, BadType, TooLarge, NoSchedule, BadWords, BadModule, LongRun, ReadFault, WriteFault, TooLong, Memory, BadWave, NotMoves}
+use Rattle.ae_jobs.specs.declared.status.Status.{Status}
+use Rattle.ae_jobs.specs.declared.status.Status.TheVariants.{Ok, Usage, BadLine, BadType, TooLarge, NoSchedule, BadWords, BadModule, LongRun, ReadFault, WriteFault, TooLong, Memory, BadWave, NotMoves}
 use Rattle.ae_tool.specs.declared.command.Command.{Command}
 use Rattle.ae_tool.specs.declared.command.Command.TheVariants.{Check, Eval, Plan, Cost, Least, Build, Stall, Run, Wave, Unwave, Sim, Demo}
 use Rattle.ae_tool.specs.Commands.{IsCommand, takes_whole}
-use Rattle.ae_tool.specs.Inputs.{AreParts, IsCut, Marked, Unmarked}
-use Rattle.ae_tool.specs.RunTexts.{input_widths, run_size, run_limit, IsRunOf, IsPlayed, Unbuilt, Played}
+use Rattle.ae_tool.specs.Cuts.{AreParts, IsCut, Marked, Unmarked}
+use Rattle.ae_jobs.specs.RunTexts.{input_widths, run_size, run_limit, IsRunOf, IsPlayed, Unbuilt, Played}
 use Rattle.ae_stalled.specs.Laws.{stall_limit}
 use Rattle.ae_compile.specs.Building.{IsBuiltStalled, IsBuiltText}
-use Rattle.ae_compile.specs.Costing.{main_costs}
-use Rattle.ae_seq.specs.Typing.{refused_line as refused_line_of}
-use Rattle.ae_parse.specs.Grammar.{IsProgramText as Reads, line_refused, program}
+use Rattle.ae_compile.specs.Costing.{main_costs, HasCosts, load_limit}
+use Rattle.ae_parse.specs.Grammar.{program}
 use Rattle.ae_compile.specs.Programs.{IsTypedText}
-use Rattle.ae_tool.specs.Programs.{IsRefusal}
+use Rattle.ae_jobs.specs.Programs.{IsRefusal}
 use Rattle.ae_rewrite.specs.StProgramTree.{StFuncTree}
 use Rattle.ae_rewrite.specs.Scheduled.{IsSchedule}
 use Rattle.ae_rewrite.specs.FailingLine.{failing_line}
 use Rattle.ae_delay.specs.declared.own.OwnCosts.{OwnCosts}
-use Rattle.ae_alike.proofs.Failing.{schedules_fine}
-use Rattle.ae_tool.specs.PlanTexts.{plan_text}
-use Rattle.ae_tool.specs.CostTables.{table_text}
-use Rattle.ae_compile.specs.declared.faults.CompileFault.{CompileFault}
+use Rattle.ae_jobs.specs.PlanTexts.{plan_text}
+use Rattle.ae_jobs.specs.CostTables.{table_text}
 use Rattle.ae_compile.specs.declared.faults.CompileFault.TheVariants as faults
-use Rattle.ae_compile.specs.Costing.{HasCosts, HasLargeLoad, IsCostFault, costs_over, load_limit}
-use Rattle.ae_tool.specs.Schedules.{IsAnswered, IsCostRefusal, IsCostText}
-use Rattle.ae_tool.specs.EvalTexts.{eval_size, IsEvalOf}
-use Rattle.ae_tool.specs.Outcomes.{IsChecked, IsEvaluated, Refused, Ran, IsReply, IsDone, HasResult, HasShortRun, IsAccepted}
+use Rattle.ae_jobs.specs.Schedules.{IsAnswered, IsCostRefusal, IsCostText}
+use Rattle.ae_jobs.specs.EvalTexts.{eval_size, IsEvalOf, IsEvaluated, Refused, Ran}
+use Rattle.ae_tool.specs.Outcomes.{IsReply, IsDone, HasResult, HasShortRun, IsAccepted}
+use Rattle.ae_jobs.specs.Checking.{IsChecked}
 use Rattle.ae_trace.specs.Traces.{is_movement}
 use Rattle.ae_least.proofs.MovingLines.{none-other}
-use Rattle.ae_tool.specs.LeastAnswers.{HasLeast, IsLeast, IsLeastOf, Told, Untold}
-use Rattle.ae_tool.specs.SimTexts.{IsSimulated}
-use Rattle.ae_tool.specs.UnwaveTexts.{IsReadable, IsUnwaved}
+use Rattle.ae_jobs.specs.LeastAnswers.{HasLeast, IsLeast, IsLeastOf, Told, Untold}
+use Rattle.ae_jobs.specs.SimTexts.{IsSimulated}
+use Rattle.ae_jobs.specs.UnwaveTexts.{IsReadable, IsUnwaved}
 use Rattle.ae_vcd.specs.Reads.{size_of_wave}
-use Rattle.ae_tool.specs.declared.run.Form.{Form}
-use Rattle.ae_tool.specs.declared.run.Form.TheVariants.{Lines, Dump}
-use Rattle.ae_tool.proofs.CostsAlike.{costs_same, over_same}
-use Rattle.ae_tool.proofs.SimComplete.{sim_complete}
+use Rattle.ae_jobs.specs.declared.run_job.Form.{Form}
+use Rattle.ae_jobs.specs.declared.run_job.Form.TheVariants.{Lines, Dump}
+use Rattle.ae_jobs.proofs.Accepted.{one_program, never_refused, never_cost_refused}
+use Rattle.ae_jobs.proofs.CostsAlike.{costs_same}
+use Rattle.ae_jobs.proofs.SimComplete.{sim_complete}
 use Rattle.ae_fields.proofs.PartLemmas.{some-line as some_line}
 use Rattle.ae_seq.proofs.Judging.{left as and-first, right as and-second}
 
@@ -367,30 +365,6 @@ parts_once false bytes part part' table table' a b = cut_once bytes part part' t
 
 -- ---- where a job has a result it answers it
 
--- a text is one program
-one_program : (part : List ℕ) (p q : ProgramTree) → Reads part p → Reads part q → p ≡ q
-one_program part p q a b = let e : program p ≡ program q = sym a ∙ b in cc
-
--- a program that is typed is not refused
-never_refused : {A : Type 0} (part : List ℕ) (p : ProgramTree) (status : Status) → IsTypedText part p → IsRefusal part status → A
-never_refused part p Ok t r = absurd r
-never_refused part p Usage t r = absurd r
-never_refused part p (BadLine line) t r = let e : None ≡ Some line = sym (ap line_refused t.reads) ∙ r in cc
-never_refused part p (BadType line) t r =
-    let e : None ≡ Some _ = sym t.typed ∙ ap refused_line_of (one_program part p r.program t.reads r.reads) ∙ r.refused in cc
-never_refused part p (TooLarge line) t r =
-    let e : None ≡ Some _ = sym t.typed ∙ ap refused_line_of (one_program part p r.program t.reads r.reads) ∙ r.refused in cc
-never_refused part p (NoSchedule line) t r = absurd r
-never_refused part p (BadWords row column) t r = absurd r
-never_refused part p (BadModule fault) t r = absurd r
-never_refused part p (LongRun size) t r = absurd r
-never_refused part p ReadFault t r = absurd r
-never_refused part p WriteFault t r = absurd r
-never_refused part p TooLong t r = absurd r
-never_refused part p Memory t r = absurd r
-never_refused part p (BadWave at) t r = absurd r
-never_refused part p (NotMoves line) t r = absurd r
-
 checked_ok : (part : List ℕ) (status : Status) (text : List ℕ) (p : ProgramTree) → IsTypedText part p → IsChecked part status text → status ≡ Ok
 checked_ok part Ok text p t b = refl
 checked_ok part Usage text p t b = never_refused part p Usage t b.0
@@ -438,51 +412,6 @@ evaluated_ok part table status text p t f (Refused r e) = never_refused part p s
 evaluated_ok part table status text p t f (Ran q u r) =
     let g : EvalFits q table = subst (λ (x : ProgramTree). EvalFits x table) (one_program part p q t.reads u.reads) f in
     eval_of_ok q table status text g.right g.short r
-
-costs_within : {A : Type 0} (limit : ℕ) (part : List ℕ) (slowdown line : ℕ) → HasCosts limit part slowdown → HasLargeLoad limit part slowdown line → A
-costs_within limit part slowdown line h l =
-    let P : ProgramTree → Type 0 = λ q. IsSchedule q slowdown l.instances in
-    let same : l.program ≡ h.program = one_program part l.program h.program l.typed.reads h.costed.typed.reads in
-    let over = over_same limit h.program slowdown h.instances l.instances h.costed.schedule (subst P same l.schedule) in
-    let e : None ≡ Some _ = sym h.costed.within ∙ over ∙ sym (ap (λ (q : ProgramTree). costs_over limit q l.instances) same) ∙ l.large in
-    cc
-
-never_cost_refused : {A : Type 0} (limit : ℕ) (part : List ℕ) (slowdown : ℕ) (status : Status) → HasCosts limit part slowdown
-    → IsCostRefusal limit part slowdown status → A
-never_cost_refused limit part slowdown (NoSchedule line) h b =
-    let fine = schedules_fine h.program slowdown h.instances h.costed.schedule in
-    let e : None ≡ Some line = sym fine ∙ ap (λ q. failing_line q slowdown) (one_program part h.program b.program h.costed.typed.reads b.typed.reads) ∙
-    b.failing in
-    cc
-never_cost_refused limit part slowdown (TooLarge line) h b = elim b [
-  | inl r ↦ never_refused part h.program (TooLarge line) h.costed.typed r
-  | inr l ↦ costs_within limit part slowdown line h l
-]
-never_cost_refused limit part slowdown Ok h b = absurd b
-never_cost_refused limit part slowdown Usage h b = never_refused part h.program Usage h.costed.typed b
-never_cost_refused limit part slowdown (BadLine line) h b = never_refused part h.program (BadLine line) h.costed.typed b
-never_cost_refused limit part slowdown (BadType line) h b = never_refused part h.program (BadType line) h.costed.typed b
-never_cost_refused limit part slowdown (BadWords row column) h b = never_refused part h.program (BadWords row column) h.costed.typed b
-never_cost_refused limit part slowdown (BadModule fault) h b = never_refused part h.program (BadModule fault) h.costed.typed b
-never_cost_refused limit part slowdown (LongRun size) h b = never_refused part h.program (LongRun size) h.costed.typed b
-never_cost_refused limit part slowdown ReadFault h b = never_refused part h.program ReadFault h.costed.typed b
-never_cost_refused limit part slowdown WriteFault h b = never_refused part h.program WriteFault h.costed.typed b
-never_cost_refused limit part slowdown TooLong h b = never_refused part h.program TooLong h.costed.typed b
-never_cost_refused limit part slowdown Memory h b = never_refused part h.program Memory h.costed.typed b
-never_cost_refused limit part slowdown (BadWave at) h b = never_refused part h.program (BadWave at) h.costed.typed b
-never_cost_refused limit part slowdown (NotMoves line) h b = never_refused part h.program (NotMoves line) h.costed.typed b
-
--- nor does it fail, but for want of memory
-pub only_memory : (limit : ℕ) (part : List ℕ) (slowdown : ℕ) (fault : CompileFault) → HasCosts limit part slowdown → IsCostFault limit part slowdown fault
-    → fault ≡ faults.Memory
-only_memory limit part slowdown (faults.BadLine line) h b = never_refused part h.program (BadLine line) h.costed.typed b
-only_memory limit part slowdown (faults.BadType line) h b = never_refused part h.program (BadType line) h.costed.typed b
-only_memory limit part slowdown (faults.TooLarge line) h b = elim b [
-  | inl r ↦ never_refused part h.program (TooLarge line) h.costed.typed r
-  | inr l ↦ costs_within limit part slowdown line h l
-]
-only_memory limit part slowdown (faults.NoSchedule line) h b = never_cost_refused limit part slowdown (NoSchedule line) h b
-only_memory limit part slowdown faults.Memory h b = refl
 
 answered_ok : (limit : ℕ) (IsRight : List ℕ → Type 0) (part : List ℕ) (slowdown : ℕ) (status : Status) (text : List ℕ) → HasCosts limit part slowdown
     → IsAnswered limit IsRight part slowdown status text → status ≡ Ok

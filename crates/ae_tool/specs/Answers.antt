@@ -3,13 +3,13 @@ use Rattle.std.specs.Prelude.{◌≡◌, ℕ, ◌+◌, ◌≤◌, List, length, 
 use Rattle.ae_io.specs.Counts.{Rose, Same, raised}
 use Rattle.ae_io.specs.Told.{Appends, AppendsPrefix, TakesCount}
 use Rattle.ae_io.specs.Transfer.{TakesAll}
-use Rattle.ae_tool.specs.declared.status.Status.{Status}
-use Rattle.ae_tool.specs.declared.status.Status.TheVariants.{Ok, Usage, ReadFault, WriteFault, TooLong, Memory}
+use Rattle.ae_jobs.specs.declared.status.Status.{Status}
+use Rattle.ae_jobs.specs.declared.status.Status.TheVariants.{Ok, Usage, ReadFault, WriteFault, TooLong, Memory}
 use Rattle.ae_tool.specs.declared.command.Command.{Command}
 use Rattle.ae_tool.specs.declared.command.Command.TheVariants.{Demo}
 use Rattle.ae_tool.specs.Commands.{IsCommand, NamesNone, TakesInput}
-use Rattle.ae_tool.specs.Refusals.{refusal_line}
-use Rattle.ae_tool.specs.DemoTexts.{IsDemoText}
+use Rattle.ae_jobs.specs.Refusals.{refusal_line}
+use Rattle.ae_jobs.specs.DemoTexts.{IsDemoText}
 use Rattle.ae_tool.specs.Outcomes.{input_limit, IsDone}
 
 -- what is seen of a source: the bytes left, where they are told, and its count of faults

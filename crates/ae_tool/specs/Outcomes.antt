@@ -3,52 +3,31 @@ use Rattle.std.specs.Prelude.{◌≡◌, ℕ, ◌+◌, ◌<◌, ◌≤◌, Bool,
 use Rattle.ae_io.specs.Counts.{Rose}
 use Rattle.ae_io.specs.Told.{TakesCount}
 use Rattle.ae_seq.specs.ProgramTree.{ProgramTree}
-use Rattle.ae_tool.specs.declared.status.Status.{Status}
-use Rattle.ae_tool.specs.declared.status.Status.TheVariants.{Ok, Usage, ReadFault, WriteFault, TooLong, Memory}
+use Rattle.ae_jobs.specs.declared.status.Status.{Status}
+use Rattle.ae_jobs.specs.declared.status.Status.TheVariants.{Ok, Usage, ReadFault, WriteFault, TooLong, Memory}
 use Rattle.ae_parse.specs.Rows.{bad_row}
 use Rattle.ae_tool.specs.declared.command.Command.{Command}
 use Rattle.ae_tool.specs.declared.command.Command.TheVariants.{Check, Eval, Plan, Cost, Least, Build, Stall, Run, Wave, Unwave, Sim, Demo}
-use Rattle.ae_tool.specs.declared.run.Form.{Form}
-use Rattle.ae_tool.specs.declared.run.Form.TheVariants.{Lines, Dump}
+use Rattle.ae_jobs.specs.declared.run_job.Form.{Form}
+use Rattle.ae_jobs.specs.declared.run_job.Form.TheVariants.{Lines, Dump}
 use Rattle.ae_tool.specs.Commands.{IsCommand, NamesNone, TakesInput, takes_whole}
-use Rattle.ae_tool.specs.Inputs.{AreParts}
-use Rattle.ae_tool.specs.Refusals.{refusal_line}
+use Rattle.ae_tool.specs.Cuts.{AreParts}
+use Rattle.ae_jobs.specs.Refusals.{refusal_line}
 use Rattle.ae_stalled.specs.Laws.{stall_limit}
-use Rattle.ae_compile.specs.Building.{IsBuiltStalled, IsBuiltText}
-use Rattle.ae_compile.specs.Costing.{main_costs}
+use Rattle.ae_compile.specs.Costing.{main_costs, HasCosts, load_limit}
 use Rattle.ae_compile.specs.Programs.{IsTypedText}
-use Rattle.ae_tool.specs.Programs.{IsRefusal}
-use Rattle.ae_tool.specs.DemoTexts.{IsDemoText}
-use Rattle.ae_tool.specs.CheckTexts.{check_text}
-use Rattle.ae_compile.specs.Costing.{HasCosts, load_limit}
-use Rattle.ae_tool.specs.Schedules.{IsAnswered, IsPlanned, IsTabled}
-use Rattle.ae_tool.specs.LeastAnswers.{HasLeast, IsLeast}
-use Rattle.ae_tool.specs.EvalTexts.{eval_size, IsEvalOf}
-use Rattle.ae_tool.specs.RunTexts.{input_widths, run_size, run_limit, IsPlayed}
-use Rattle.ae_tool.specs.SimTexts.{IsSimulated, IsSimulable}
-use Rattle.ae_tool.specs.UnwaveTexts.{IsReadable, IsUnwaved}
+use Rattle.ae_jobs.specs.DemoTexts.{IsDemoText}
+use Rattle.ae_jobs.specs.Checking.{IsChecked}
+use Rattle.ae_jobs.specs.Schedules.{IsBuilt, IsPlanned, IsStallReply, IsTabled}
+use Rattle.ae_jobs.specs.LeastAnswers.{HasLeast, IsLeast}
+use Rattle.ae_jobs.specs.EvalTexts.{eval_size, IsEvaluated}
+use Rattle.ae_jobs.specs.RunTexts.{input_widths, run_size, run_limit, IsPlayed}
+use Rattle.ae_jobs.specs.SimTexts.{IsSimulated, IsSimulable}
+use Rattle.ae_jobs.specs.UnwaveTexts.{IsReadable, IsUnwaved}
 
 -- the most bytes of an input
 abbrev pub input_limit : ℕ
 input_limit = 16777216
-
--- what `build` answers and writes
-abbrev pub IsBuilt : (part : List ℕ) (slowdown : ℕ) → Status → (text : List ℕ) → Type 0
-IsBuilt part slowdown status text = IsAnswered load_limit (IsBuiltText part slowdown) part slowdown status text
-
--- what `stall` answers and writes
-abbrev pub IsStallReply : (part : List ℕ) (slowdown : ℕ) → Status → (text : List ℕ) → Type 0
-IsStallReply part slowdown status text = IsAnswered stall_limit (IsBuiltStalled part slowdown) part slowdown status text
-
--- what `check` answers and writes
-abbrev pub IsChecked : (part : List ℕ) → Status → (text : List ℕ) → Type 0
-IsChecked part Ok text = (p : ProgramTree) × IsTypedText part p × (text ≡ check_text p)
-IsChecked part status text = IsRefusal part status × (text ≡ refusal_line status)
-
--- what `eval` answers and writes: the program's refusals come before those of the rows
-pub data IsEvaluated (part : List ℕ) (table : List (List (List ℕ))) (status : Status) (text : List ℕ) : Type 0 where
-  Refused : IsRefusal part status → text ≡ refusal_line status → IsEvaluated part table status text
-  Ran : (p : ProgramTree) → IsTypedText part p → IsEvalOf p table status text → IsEvaluated part table status text
 
 -- what a job answers and writes for the two parts of an input; a demo takes none
 abbrev pub IsReply : Command → (part : List ℕ) (table : List (List (List ℕ))) → Status → (text : List ℕ) → Type 0

@@ -6,12 +6,12 @@ ghost use Rattle.ae_io.specs.Told.{Appends};
 ghost use Rattle.ae_tool.specs.declared.command.Command.{Command};
 ghost use Rattle.ae_tool.specs.declared.command.Command.TheVariants.{Demo};
 ghost use Rattle.ae_tool.specs.Commands.{word_bytes, IsCommand, NamesNone};
-ghost use Rattle.ae_tool.specs.Refusals.{refusal_line};
+ghost use Rattle.ae_jobs.specs.Refusals.{refusal_line};
 ghost use Rattle.ae_tool.specs.Outcomes.{is_settled, HasOutcome, HasPart, LeavesInput, IsAccepted, RefusesWords};
 
 use crate::serve::serve;
-use crate::status::Status;
 use ae_io::{Sink, Source};
+use ae_jobs::Status;
 use std::alloc::Global;
 
 /// Answers a job, named by its words: reads the whole input, and writes the job's text or the line of a refusal.

@@ -1,6 +1,6 @@
 // The words that name a job.
 
-ghost use Rattle.std.specs.Prelude.{◌≡◌, ◌∷◌, [], ℕ, ◌<◌, ◌≤◌, ◌^◌, codes, MatchOption};
+ghost use Rattle.std.specs.Prelude.{◌≡◌, ◌∷◌, [], ℕ, ◌<◌, ◌^◌, codes, MatchOption};
 ghost use Rattle.std.specs.Fmt.{decimal};
 ghost use Rattle.ae_tool.specs.declared.command.Command.TheVariants.{Demo};
 ghost use Rattle.ae_tool.specs.Commands.{word_bytes, IsCommand, IsDemoSize, IsSlowdown, NamesNone, TakesInput, takes_whole};

@@ -4,11 +4,10 @@ ghost use Rattle.std.specs.Prelude.{List, ℕ, IfOk, string_bytes};
 ghost use Rattle.ae_tool.specs.Commands.{word_bytes, AreInRange, IsCommand, TakesInput};
 ghost use Rattle.ae_tool.specs.Outcomes.{IsOutcome};
 
+use crate::answer::{INPUT_LIMIT, answer};
 use crate::command::{Command, command_named, demo_size};
-use crate::demo::demo;
-use crate::reply::{INPUT_LIMIT, Reply, answer, refused};
-use crate::status::Status;
 use ae_compile::OutOfMemory;
+use ae_jobs::{Reply, Status, demo, refused};
 use std::alloc::Global;
 
 // What a job that takes its input answers.

@@ -1,14 +1,13 @@
 // One call: what it reads, and what it writes.
 
-ghost use Rattle.std.specs.Prelude.{◌≡◌, List, ℕ};
-ghost use Rattle.ae_tool.specs.Answers.{Puts, IsMade, Answers, SourceView, SinkView};
+ghost use Rattle.std.specs.Prelude.{List, ℕ};
+ghost use Rattle.ae_tool.specs.Answers.{Puts, IsMade, Answers};
 ghost use Rattle.ae_tool.specs.Commands.{word_bytes, AreInRange, IsCommand, IsDemoSize, TakesInput};
 
+use crate::answer::{INPUT_LIMIT, answer};
 use crate::command::{Command, command_named, demo_size};
-use crate::demo::demo;
-use crate::reply::{INPUT_LIMIT, answer};
-use crate::status::Status;
 use ae_io::{LoadFault, PutFault, Sink, Source, load, put_all};
+use ae_jobs::{Status, demo};
 use std::alloc::Global;
 
 // Writes a text whole and answers the status, or what the sink met.

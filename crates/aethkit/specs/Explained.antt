@@ -1,7 +1,7 @@
 -- What is said of a call of the compiler to explain its answer.
 use Rattle.std.specs.Prelude.{◌≡◌, ℕ, Bool, true, false, List, ◌++◌, codes}
-use Rattle.ae_tool.specs.declared.status.Status.{Status}
-use Rattle.ae_tool.specs.declared.status.Status.TheVariants.{Ok}
+use Rattle.ae_jobs.specs.declared.status.Status.{Status}
+use Rattle.ae_jobs.specs.declared.status.Status.TheVariants.{Ok}
 use Rattle.ae_tool.specs.Outcomes.{IsOutcome}
 
 -- nothing is refused

@@ -1,7 +1,7 @@
 -- The module of a program under another name, in a wrapper.
 use Rattle.std.specs.Prelude.{◌≡◌, ℕ, true, List, [], ◌∷◌, ◌++◌, codes}
 use Rattle.std.specs.Fmt.{decimal}
-use Rattle.ae_tool.specs.declared.status.Status.{Status}
+use Rattle.ae_jobs.specs.declared.status.Status.{Status}
 use Rattle.ae_tool.specs.Outcomes.{IsOutcome}
 use Rattle.aethkit.specs.Explained.{is_ok}
 

@@ -1,7 +1,7 @@
 -- A demo is written whole, or there was no memory for it.
 use Rattle.std.proofs.Common.{ℕ, List, subst}
 use Rattle.std.specs.Prelude.{string_bytes}
-use Rattle.ae_tool.specs.declared.status.Status.TheVariants.{Ok}
+use Rattle.ae_jobs.specs.declared.status.Status.TheVariants.{Ok}
 use Rattle.ae_tool.specs.Answers.{Puts, SinkView, Demo_whole}
 use Rattle.ae_tool.proofs.serve.make.Goals as goal
 

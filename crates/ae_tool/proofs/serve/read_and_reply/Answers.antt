@@ -1,6 +1,6 @@
 use Rattle.std.proofs.Common.{rules, ◌≡◌, ℕ, List, sym, ap, ◌∙◌, ◌≤◌, subst, length, arith, vec_len}
 use Rattle.std.specs.Prelude.{string_bytes}
-use Rattle.ae_tool.specs.declared.status.Status.{Status}
+use Rattle.ae_jobs.specs.declared.status.Status.{Status}
 use Rattle.ae_tool.specs.Answers.{Puts, SinkView, Unread, Past_limit, Done, No_room}
 use Rattle.ae_tool.specs.Outcomes.{IsDone}
 use Rattle.ae_tool.proofs.serve.read_and_reply.Goals as goal

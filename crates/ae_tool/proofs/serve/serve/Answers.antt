@@ -1,5 +1,4 @@
-use Rattle.std.proofs.Common.{◌≡◌, List, ℕ, refl, subst}
-use Rattle.ae_tool.specs.declared.command.Command.{Command}
+use Rattle.std.proofs.Common.{refl, subst}
 use Rattle.ae_tool.specs.Commands.{word_bytes, IsCommand}
 use Rattle.ae_tool.specs.Answers.{Made}
 use Rattle.ae_tool.proofs.serve.serve.Goals as goal

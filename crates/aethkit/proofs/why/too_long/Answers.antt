@@ -1,7 +1,7 @@
 use Rattle.std.proofs.Common.{◌≡◌, ◌<◌, ◌++◌, ℕ, List, String, Global, length, refl, string_bytes}
 use Rattle.std.proofs.lemmas.Result.{IfOk-weaker}
 use Rattle.ae_tool.specs.declared.command.Command.{Command as Job}
-use Rattle.ae_tool.specs.declared.status.Status.TheVariants.{TooLong}
+use Rattle.ae_jobs.specs.declared.status.Status.TheVariants.{TooLong}
 use Rattle.ae_tool.specs.Commands.{IsCommand, TakesInput}
 use Rattle.ae_tool.specs.Outcomes.{input_limit}
 use Rattle.aethkit.specs.Explained.{IsExplained, Refused}

@@ -1,0 +1,67 @@
+-- The rows of an input can be fed to the circuit of its program.
+use Rattle.std.proofs.Common.{ℕ, zero, suc, ◌≡◌, ◌+◌, ◌*◌, Bool, List, [], ◌∷◌, ◌++◌, length, length-append, map, take, drop, flat_map, Some, slice_get, arith, refl, ap, sym, ◌∙◌, subst, append_assoc}
+use Rattle.std.specs.List.{filter, All}
+use Rattle.std.proofs.lemmas.List.{append-nil, length-map, map-append, nil_from_length, take-append-drop}
+use Rattle.std.proofs.Math.Nat.{suc-add, zero-add, zero-mul}
+use Rattle.std.proofs.lemmas.List.Concat.{flat_map-cons}
+use Rattle.std.proofs.lemmas.List.Elements.{filter-append}
+use Rattle.std.proofs.lemmas.List.Sums.{length-filter}
+use Rattle.ae_word.specs.AtomTree.{WordKind, atom_kinds}
+use Rattle.ae_seqtype.specs.SeqTree.{SeqTree, atom, seq, atoms, atom_of, kinds, repeated}
+use Rattle.ae_seqtype.specs.ValueTree.{FitKinds}
+use Rattle.ae_seqtype.proofs.Stands.{FitKinds-append, repeated-one, repeated-push, repeated-add as repeated_add, repeated-mul as repeated_mul}
+use Rattle.ae_sttype.specs.StTree.{StTree, lanes, element_atom}
+use Rattle.ae_netlist.specs.declared.cell.Port.{Port}
+use Rattle.ae_netlist.specs.declared.cell.Port.TheVariants.{In}
+use Rattle.ae_netlist.specs.declared.cell.SizedCell.{SizedCell}
+use Rattle.ae_netlist.specs.Circuit.{Circuit}
+use Rattle.ae_netlist.specs.Counts.{count_of, is_input}
+use Rattle.ae_netlist.specs.Rows.{AreInputs}
+use Rattle.ae_seq.specs.ProgramTree.{ProgramTree}
+use Rattle.ae_parse.specs.Rows.{row_words, words_in}
+use Rattle.ae_eval.specs.Stack.{IsTyped, kinds_of}
+use Rattle.ae_eval.specs.Lines.{input_types}
+use Rattle.ae_rewrite.specs.StProgramTree.{StFuncTree}
+use Rattle.ae_ports.specs.Ports.{streams_of, SizedPort, input_cell, input_ports, lane_ports, ports_from, reset_port, word_ports}
+use Rattle.ae_flow.proofs.MeaningLayouts.{AllLaidOut, LaysOut}
+use Rattle.ae_lower.specs.Circuits.{IsCircuitOf}
+use Rattle.ae_play.specs.Fed.{blocks_of, fed_rows}
+use Rattle.ae_play.specs.Fits.{CanBeFed, FitBlocks, HasColumns, lane_kinds, value_kinds}
+use Rattle.ae_rewrite.specs.Interface.{parameter_types}
+use Rattle.ae_jobs.specs.EvalRows.{AreBlocks}
+use Rattle.ae_jobs.specs.RunTexts.{input_widths}
+use Rattle.ae_jobs.proofs.EvalTypes.{same_parameters}
+use Rattle.ae_jobs.proofs.Shown.{row_fits}
+use Rattle.ae_eval.proofs.Combining.{kinds-repeated as kinds_again}
+
+-- ---- the words of blocks
+
+kinds_laid : (t : SeqTree) (s : StTree) → LaysOut t s → kinds t ≡ value_kinds s
+kinds_laid t s h =
+    kinds_again t ∙ ap (λ a. repeated (atoms t) (atom_kinds a)) (sym h.atom) ∙ ap (λ k. repeated k (atom_kinds (element_atom s))) (sym h.atoms)
+
+all_kinds : (ts : List SeqTree) (ss : List StTree) → AllLaidOut ts ss → kinds_of ts ≡ flat_map value_kinds ss
+all_kinds [] [] h = refl
+all_kinds [] (s ∷ ss) h = absurd h
+all_kinds (t ∷ ts) [] h = absurd h
+all_kinds (t ∷ ts) (s ∷ ss) h =
+    ap (λ (ks : List WordKind). ks ++ kinds_of ts) (kinds_laid t s h.0) ∙ ap (λ (ks : List WordKind). value_kinds s ++ ks) (all_kinds ts ss h.1) ∙
+    sym (flat_map-cons value_kinds s ss)
+
+rows_fit : (ks : List WordKind) (table : List (List (List ℕ))) → ((k : ℕ) (r : List (List ℕ)) → slice_get table k ≡ Some r → FitKinds (row_words r) ks)
+    → FitKinds (words_in table) (repeated (length table) ks)
+rows_fit ks [] each = tt
+rows_fit ks (r ∷ rs) each =
+    FitKinds-append (row_words r) (words_in rs) ks (repeated (length rs) ks) (each 0 r refl) (rows_fit ks rs (λ k x e. each (suc k) x e))
+
+pub blocks_fit : (p : ProgramTree) (ss : List StTree) (blocks : ℕ) (table : List (List (List ℕ))) (ws : List ℕ) → IsTyped p → AllLaidOut (parameter_types p) ss
+    → AreBlocks p blocks table ws → FitBlocks ss blocks ws
+blocks_fit p ss blocks table ws typed laid a =
+    let ks : kinds_of (input_types p) ≡ flat_map value_kinds ss = ap kinds_of (same_parameters p) ∙ all_kinds (parameter_types p) ss laid in
+    let fit : FitKinds (words_in table) (repeated (length table) (kinds_of (input_types p))) = rows_fit (kinds_of (input_types p)) table
+    (λ k r e. row_fits p (length (input_widths p)) table ws k r typed a.rows e) in
+    let fit_ws : FitKinds ws (repeated (length table) (kinds_of (input_types p))) = subst
+    (λ (vs : List ℕ). FitKinds vs (repeated (length table) (kinds_of (input_types p)))) (sym a.rows.words_are) fit in
+    let fit_ss : FitKinds ws (repeated (length table) (flat_map value_kinds ss)) = subst
+    (λ (ls : List WordKind). FitKinds ws (repeated (length table) ls)) ks fit_ws in
+    subst (λ (n : ℕ). FitKinds ws (repeated n (flat_map value_kinds ss))) (sym a.many) fit_ss

@@ -1,4 +1,0 @@
-use Rattle.ae_tool.proofs.cost_table.write_cost.Goals as goal
-
-pub returns : goal.returns
-returns c = rw (c.as_str.ensures.value, c.op_name.ensures.word) at c.write_row.ensures.text

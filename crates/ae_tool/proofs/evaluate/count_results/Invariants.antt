@@ -1,6 +1,0 @@
-use Rattle.ae_seq.specs.ProgramTree.{program_tree}
-use Rattle.ae_tool.proofs.EvalSteps.{Counted}
-use Rattle.ae_tool.proofs.evaluate.count_results.Given as goal
-
-abbrev pub invariant-loop-item : goal.invariant-loop-item
-invariant-loop-item l = Counted (program_tree l.p) l.last l.item-items l.item-index l.count
