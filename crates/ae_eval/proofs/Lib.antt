@@ -3,6 +3,7 @@ pub mod Pieces
 pub mod Folding
 pub mod Moving
 pub mod Zips
+pub mod WordFits
 pub mod Wording
 pub mod Combining
 pub mod Scanning

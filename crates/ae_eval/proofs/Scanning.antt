@@ -15,7 +15,7 @@ use Rattle.ae_eval.specs.Stack.{FitAt, Pushed, window, combined}
 use Rattle.ae_eval.proofs.Windows.{pushed-on, window-append, window-inside}
 use Rattle.ae_eval.proofs.Pieces.{element-stands, piece-stands, piece-ends, count-elements}
 use Rattle.ae_eval.proofs.Folding.{scan-step, folds-last}
-use Rattle.ae_eval.proofs.Wording.{combined-fits}
+use Rattle.ae_eval.proofs.WordFits.{combined-fits}
 
 pub record Scanning (op : WordOp) (s t : SeqTree) (start : ℕ) (old now : List ℕ) (i : ℕ) : Type 0 where
   pub kept : take (length old) now ≡ old

@@ -21,7 +21,7 @@ use Rattle.ae_eval.specs.Stack.{combined}
 use Rattle.ae_eval.proofs.Combining.{kind-place}
 use Rattle.ae_eval.proofs.Folding.{combined-stands, length-combined, fold_all-push}
 use Rattle.ae_eval.proofs.Pieces.{element-stands, count-elements}
-use Rattle.ae_eval.proofs.Wording.{combined-fits}
+use Rattle.ae_eval.proofs.WordFits.{combined-fits}
 use Rattle.ae_flow.proofs.MeaningTables.{table, length-table, get-table, table-by, stands-table, folds-table}
 use Rattle.ae_fold.proofs.Associative.{fold_zero as fold-first, fold_suc as fold-next}
 
