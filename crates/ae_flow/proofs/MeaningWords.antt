@@ -16,8 +16,8 @@ use Rattle.ae_seq.specs.Typing.{word_type, one_word, as_word, pair_type, fst_typ
 use Rattle.ae_seq.specs.Meaning.{coded, word_value, cast_value, result_kind, first_part, second_part, zipped}
 use Rattle.ae_eval.specs.Stack.{FitAt, paired, window}
 use Rattle.ae_eval.proofs.Moving.{where_ok-some, join_fit}
-use Rattle.ae_eval.proofs.WordFits.{word_fits, as-of as as-there}
-use Rattle.ae_eval.proofs.Wording.{Choice, one-line, two-line, choice-line}
+use Rattle.ae_eval.proofs.WordFits.{word_fits}
+use Rattle.ae_eval.proofs.Wording.{Choice, one-line, two-line, choice-line, as-of as as-there}
 use Rattle.ae_eval.proofs.Zips.{words-atoms, zip-pushed}
 use Rattle.ae_rewrite.specs.Sound.{item_layout}
 use Rattle.ae_flow.specs.Flow.{main_argument, first_width, width_of, parts}
