@@ -18,7 +18,7 @@ use crate::sections::{Section, copied_sections};
 use ae_clocked::Clocks;
 use ae_delay::Timing;
 use ae_flow::flows_mean;
-use ae_netlist::{NetFault, Netlist, Port};
+use ae_netlist::{Netlist, Port, in_room};
 use ae_retime::Slacks;
 use ae_rewrite::StProgram;
 use ae_tidy::tidy;
@@ -74,7 +74,7 @@ pub fn lower(
     let mut clocks = Clocks::new(alloc, rst);
     let mut marks = Vec::new(alloc);
     let mut sections = Vec::new(alloc);
-    let results = match lower_instance(
+    let results = in_room(lower_instance(
         alloc,
         &mut nl,
         &mut clocks,
@@ -86,11 +86,7 @@ pub fn lower(
         0,
         &mut marks,
         &mut sections,
-    ) {
-        Ok(results) => results,
-        Err(NetFault::Full) => unreachable!(),
-        Err(NetFault::Memory) => return Err(AllocError),
-    };
+    ))?;
     add_results(&mut nl, s, &results)?;
     nl.formed();
     let tidied = tidy(alloc, nl, marks)?;

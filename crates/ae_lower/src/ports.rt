@@ -16,7 +16,7 @@ ghost use Rattle.ae_lower.specs.Circuits.{item_stream, result_streams};
 ghost use Rattle.ae_lower.specs.PortNets.{AddsInputs, AddsOutputs, bundles_from, net_widths};
 
 use ae_delay::layout;
-use ae_netlist::{Cell, NetFault, NetId, Netlist, Port};
+use ae_netlist::{Cell, NetId, Netlist, Port};
 use ae_ops::Bundle;
 use ae_rewrite::StFunc;
 use ae_sttype::StType;
@@ -45,11 +45,7 @@ pub fn add_input(nl: &mut Netlist, width: u32, port: Port) -> Result<NetId, Allo
     ensures net { IfOk result (λ n. n ≡ record { 0 = length nl.old.cells }) }
     ensures added { OnOk result (nl.new ≡ record nl.old { cells = nl.old.cells ++ input_cell (record { port = port; width = width }) ∷ [] }) }
 {
-    match nl.add(width, Cell::Input(port)) {
-        Ok(net) => Ok(net),
-        Err(NetFault::Full) => unreachable!(),
-        Err(NetFault::Memory) => Err(AllocError),
-    }
+    nl.push(width, Cell::Input(port))
 }
 
 /// Adds the inputs of one lane, for which there is room, and keeps their nets.

@@ -1,7 +1,7 @@
 // Netlists, and how they are built.
 
 ghost use Rattle.std.specs.Option.{option_copied, option_map};
-ghost use Rattle.std.specs.Prelude.{◌≡◌, ◌<◌, ◌≤◌, ◌+◌, ◌-◌, ◌^◌, ◌↔◌, ◌++◌, ◌∷◌, [], length, Option, Some, None, slice_get, slice_set, IfOk, IfErr, OnOk, OnErr, IfSome, IsSome, List, ℕ, true, false};
+ghost use Rattle.std.specs.Prelude.{◌≡◌, ◌≢◌, ◌<◌, ◌≤◌, ◌+◌, ◌-◌, ◌^◌, ◌↔◌, ◌++◌, ◌∷◌, [], length, Option, Some, None, slice_get, slice_set, IfOk, Ok, Err, IfErr, OnOk, OnErr, IfSome, IsSome, List, ℕ, true, false};
 ghost use Rattle.ae_netlist.specs.Circuit.{Circuit, IsNet, IsAllowed, IsFormed, IsMemory, IsRegister, IsWritten, HaveNets, SizedCellFits, depth_of, new_memory, new_register, width_of};
 ghost use Rattle.ae_netlist.specs.Counts.{AreNumbered, IsNumbered, cells_of, count_of, is_input};
 
@@ -35,6 +35,18 @@ impl<T: Drop> From<AllocFailed<T>> for NetFault {
 
     fn from(_: AllocFailed<T>) -> NetFault {
         NetFault::Memory
+    }
+}
+
+/// What a call answers that had room for its cells: an error only for want of memory.
+pub fn in_room<T: Drop>(made: Result<T, NetFault>) -> Result<T, AllocError>
+    requires { made ≢ Err NetFault.Full }
+    ensures { IfOk result (λ t. made ≡ Ok t) }
+{
+    match made {
+        Ok(made) => Ok(made),
+        Err(NetFault::Full) => unreachable!(),
+        Err(NetFault::Memory) => Err(AllocError),
     }
 }
 
@@ -168,47 +180,102 @@ impl Netlist {
         self.outlets.get(k as usize)
     }
 
-    fn append(&mut self, sized: SizedCell) -> Result<NetId, NetFault>
+    fn append(&mut self, sized: SizedCell) -> Result<NetId, AllocError>
         requires fits { SizedCellFits self.old.cells (self.old.cells ++ sized ∷ []) (length self.old.cells) sized }
         requires other { is_input sized.cell ≡ false }
+        requires room { length self.old.cells < self.old.limit }
         ensures ok { IfOk result (λ n. n ≡ record { 0 = length self.old.cells }) }
         ensures added { OnOk result (self.new ≡ record self.old { cells = self.old.cells ++ sized ∷ [] }) }
-        ensures full { (result ≡ Err NetFault.Full) ↔ (length self.old.cells ≡ self.old.limit) }
         ensures err { OnErr result (self.new ≡ self.old) }
     {
         let net = self.cells.len();
-        if net >= self.limit as usize {
-            return Err(NetFault::Full);
-        }
+        self.cells.push(sized)?;
+        Ok(NetId(net as u32))
+    }
+
+    fn append_input(&mut self, sized: SizedCell) -> Result<NetId, AllocError>
+        requires fits { SizedCellFits self.old.cells (self.old.cells ++ sized ∷ []) (length self.old.cells) sized }
+        requires input { is_input sized.cell ≡ true }
+        requires room { length self.old.cells < self.old.limit }
+        ensures ok { IfOk result (λ n. n ≡ record { 0 = length self.old.cells }) }
+        ensures added { OnOk result (self.new ≡ record self.old { cells = self.old.cells ++ sized ∷ [] }) }
+        ensures err { OnErr result (self.new ≡ self.old) }
+    {
+        let net = self.cells.len();
+        self.inputs.push(NetId(net as u32))?;
         match self.cells.push(sized) {
             Ok(()) => Ok(NetId(net as u32)),
-            Err(_) => Err(NetFault::Memory),
+            Err(refused) => {
+                self.inputs.pop();
+                Err(AllocError::from(refused))
+            }
         }
     }
 
-    fn append_input(&mut self, sized: SizedCell) -> Result<NetId, NetFault>
-        requires fits { SizedCellFits self.old.cells (self.old.cells ++ sized ∷ []) (length self.old.cells) sized }
-        requires input { is_input sized.cell ≡ true }
+    /// Adds an input, a constant, an operator or a peek, for which there is room, as the last cell, and answers its net.
+    /// The error comes only for want of memory; the netlist is then unchanged.
+    pub fn push(&mut self, width: u32, cell: Cell) -> Result<NetId, AllocError>
+        requires low { 1 ≤ width }
+        requires high { width ≤ 64 }
+        requires allowed { IsAllowed self.old.cells width cell }
+        requires room { length self.old.cells < self.old.limit }
         ensures ok { IfOk result (λ n. n ≡ record { 0 = length self.old.cells }) }
-        ensures added { OnOk result (self.new ≡ record self.old { cells = self.old.cells ++ sized ∷ [] }) }
-        ensures full { (result ≡ Err NetFault.Full) ↔ (length self.old.cells ≡ self.old.limit) }
+        ensures added { OnOk result (self.new ≡ record self.old { cells = self.old.cells ++ (record { width = width; cell = cell }) ∷ [] }) }
         ensures err { OnErr result (self.new ≡ self.old) }
     {
-        let net = self.cells.len();
-        if net >= self.limit as usize {
-            return Err(NetFault::Full);
+        match cell {
+            Cell::Input(_) => self.append_input(SizedCell { width, cell }),
+            _ => self.append(SizedCell { width, cell }),
         }
-        match self.inputs.push(NetId(net as u32)) {
-            Ok(()) => (),
-            Err(_) => return Err(NetFault::Memory),
-        }
-        match self.cells.push(sized) {
-            Ok(()) => Ok(NetId(net as u32)),
-            Err(_) => {
-                self.inputs.pop();
-                Err(NetFault::Memory)
-            }
-        }
+    }
+
+    /// Adds a register, for which there is room, that keeps its word until it is connected: it names itself. The error
+    /// is as for `push`.
+    pub fn push_register(&mut self, width: u32) -> Result<NetId, AllocError>
+        requires low { 1 ≤ width }
+        requires high { width ≤ 64 }
+        requires room { length self.old.cells < self.old.limit }
+        ensures ok { IfOk result (λ n. n ≡ record { 0 = length self.old.cells }) }
+        ensures added { OnOk result (self.new ≡ record self.old { cells = self.old.cells ++ new_register (length self.old.cells) width ∷ [] }) }
+        ensures err { OnErr result (self.new ≡ self.old) }
+    {
+        let own = NetId(self.len());
+        self.append(SizedCell {
+            width,
+            cell: Cell::Reg { next: own },
+        })
+    }
+
+    /// Adds a memory of `depth` words of a width, for which there is room, that is never written until it is connected:
+    /// it names itself. The error is as for `push`.
+    pub fn push_memory(&mut self, width: u32, depth: u32) -> Result<NetId, AllocError>
+        requires low { 1 ≤ width }
+        requires high { width ≤ 64 }
+        requires some { 1 ≤ depth }
+        requires most { depth ≤ 65536 }
+        requires room { length self.old.cells < self.old.limit }
+        ensures ok { IfOk result (λ n. n ≡ record { 0 = length self.old.cells }) }
+        ensures added { OnOk result (self.new ≡ record self.old { cells = self.old.cells ++ new_memory (length self.old.cells) width depth ∷ [] }) }
+        ensures err { OnErr result (self.new ≡ self.old) }
+    {
+        let own = NetId(self.len());
+        self.append(SizedCell {
+            width,
+            cell: Cell::Mem {
+                depth,
+                at: own,
+                next: own,
+                enable: own,
+            },
+        })
+    }
+
+    // Whether no cell can be added.
+    fn is_full(&self) -> bool
+        ensures full { result ≡ true → length self.now.cells ≡ self.now.limit }
+        ensures room { result ≡ false → length self.now.cells < self.now.limit }
+    {
+        self.len() >= self.limit
     }
 
     /// Adds an input, a constant, an operator or a peek as the last cell, and answers its net. `Full` comes exactly
@@ -222,10 +289,10 @@ impl Netlist {
         ensures full { (result ≡ Err NetFault.Full) ↔ (length self.old.cells ≡ self.old.limit) }
         ensures err { OnErr result (self.new ≡ self.old) }
     {
-        match cell {
-            Cell::Input(_) => self.append_input(SizedCell { width, cell }),
-            _ => self.append(SizedCell { width, cell }),
+        if self.is_full() {
+            return Err(NetFault::Full);
         }
+        Ok(self.push(width, cell)?)
     }
 
     /// Adds a register that keeps its word until it is connected: it names itself. `Full` and a refusal are as for
@@ -238,11 +305,10 @@ impl Netlist {
         ensures full { (result ≡ Err NetFault.Full) ↔ (length self.old.cells ≡ self.old.limit) }
         ensures err { OnErr result (self.new ≡ self.old) }
     {
-        let own = NetId(self.len());
-        self.append(SizedCell {
-            width,
-            cell: Cell::Reg { next: own },
-        })
+        if self.is_full() {
+            return Err(NetFault::Full);
+        }
+        Ok(self.push_register(width)?)
     }
 
     /// Adds a memory of `depth` words of a width, which is never written until it is connected: it names itself.
@@ -257,16 +323,10 @@ impl Netlist {
         ensures full { (result ≡ Err NetFault.Full) ↔ (length self.old.cells ≡ self.old.limit) }
         ensures err { OnErr result (self.new ≡ self.old) }
     {
-        let own = NetId(self.len());
-        self.append(SizedCell {
-            width,
-            cell: Cell::Mem {
-                depth,
-                at: own,
-                next: own,
-                enable: own,
-            },
-        })
+        if self.is_full() {
+            return Err(NetFault::Full);
+        }
+        Ok(self.push_memory(width, depth)?)
     }
 
     /// Connects a register: from now on it takes the word of `next` at the end of each clock. Nothing else changes.

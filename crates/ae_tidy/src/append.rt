@@ -1,24 +1,12 @@
 // Cells added to the copy.
 
-ghost use Rattle.std.specs.Prelude.{◌≡◌, ◌≢◌, ◌<◌, ◌≤◌, ◌++◌, ◌∷◌, [], IfOk, OnOk, Ok, Err, length};
+ghost use Rattle.std.specs.Prelude.{◌≡◌, ◌<◌, ◌≤◌, ◌++◌, ◌∷◌, [], IfOk, OnOk, length};
 ghost use Rattle.ae_netlist.specs.Circuit.{IsNet, IsWritten};
 ghost use Rattle.ae_tidy.specs.Copies.{HasDepth, MayFollow};
 ghost use Rattle.ae_tidy.specs.Images.{fresh_cell};
 
-use ae_netlist::{Cell, NetFault, NetId, Netlist, SizedCell};
+use ae_netlist::{Cell, NetId, Netlist, SizedCell};
 use std::alloc::AllocError;
-
-// What a call answers that has room: an error only for want of memory.
-fn made(net: Result<NetId, NetFault>) -> Result<NetId, AllocError>
-    requires { net ≢ Err NetFault.Full }
-    ensures { IfOk result (λ n. net ≡ Ok n) }
-{
-    match net {
-        Ok(net) => Ok(net),
-        Err(NetFault::Full) => unreachable!(),
-        Err(NetFault::Memory) => Err(AllocError),
-    }
-}
 
 /// Adds a memory as deep as this one, or a register in any other's place, that is connected later; there is room for it.
 pub fn add_late(nl: &mut Netlist, width: u32, cell: Cell) -> Result<NetId, AllocError>
@@ -30,8 +18,9 @@ pub fn add_late(nl: &mut Netlist, width: u32, cell: Cell) -> Result<NetId, Alloc
     ensures added { OnOk result (nl.new ≡ record nl.old { cells = nl.old.cells ++ (record { width = width; cell = fresh_cell (length nl.old.cells) cell }) ∷ [] }) }
 {
     match cell {
-        Cell::Mem { depth, .. } => made(nl.memory(width, depth)),
-        _ => made(nl.state(width)),
+        Cell::Mem { depth, .. } => nl.push_memory(width, depth),
+        Cell::Input(_) | Cell::Const(_) | Cell::Op(_, _) | Cell::Peek { .. } | Cell::Reg { .. } =>
+            nl.push_register(width),
     }
 }
 
@@ -95,6 +84,9 @@ pub fn append(nl: &mut Netlist, sized: SizedCell) -> Result<NetId, AllocError>
             next,
             enable,
         } => add_memory(nl, sized.width, depth, at, next, enable),
-        _ => made(nl.add(sized.width, sized.cell)),
+        Cell::Input(_) | Cell::Const(_) | Cell::Op(_, _) | Cell::Peek { .. } => nl.push(
+            sized.width,
+            sized.cell,
+        ),
     }
 }

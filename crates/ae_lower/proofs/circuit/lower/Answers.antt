@@ -1,5 +1,5 @@
 -- The circuit from its parts.
-use Rattle.std.proofs.Common.{◌≡◌, ◌+◌, ◌-◌, ◌++◌, ◌∷◌, [], ℕ, arith, List, Some, slice_get, length, sym, ap, ◌∙◌, subst}
+use Rattle.std.proofs.Common.{◌≡◌, ◌+◌, ◌-◌, ◌++◌, ◌∷◌, [], ℕ, arith, List, Some, slice_get, length, sym, refl, ap, ◌∙◌, subst}
 use Rattle.std.proofs.lemmas.List.{length-map}
 use Rattle.std.proofs.lemmas.Option.{same_Some, slice_get-map}
 use Rattle.std.specs.Option.{option_map}
@@ -39,8 +39,8 @@ add_inputs-requires-clause-room c =
     let limit = ap (λ (n : Circuit). n.limit) c.in_ok-rst.ensures.added ∙ ap (λ (n : Circuit). n.limit) c.new-nl.ensures in
     omega (arith, one, limit, sound.few_ins, length-map f.ins.items st_tree, ap length c.deref.ensures.value)
 
-pub unreachable-requires : goal.unreachable-requires
-unreachable-requires c =
+pub in_room-requires : goal.in_room-requires
+in_room-requires c is =
     let fs = c.args.p.now in
     let f = c.instance-s.result.now in
     let k = c.count-last.result - 1 in
@@ -52,7 +52,7 @@ unreachable-requires c =
     let limit =
     ap (λ (n : Circuit). n.limit) c.in_ok-ins.ensures.cells ∙ ap (λ (n : Circuit). n.limit) c.in_ok-rst.ensures.added ∙
     ap (λ (n : Circuit). n.limit) c.new-nl.ensures in
-    let full : length c.lower_instance.new.nl.cells ≡ c.lower_instance.new.nl.limit = c.in-Err-Full.ensures.full c.in-Err-Full.field-0-is in
+    let full : length c.lower_instance.new.nl.cells ≡ c.lower_instance.new.nl.limit = let told = rw is at c.lower_instance.ensures.full in told refl in
     omega (
       arith,
       one,
@@ -115,13 +115,15 @@ add_results-requires-clause-sound c =
 pub add_results-requires-clause-long : goal.add_results-requires-clause-long
 add_results-requires-clause-long c =
     let f = c.instance-s.result.now in
-    let chosen = c.in-Ok.ensures.results (st_func_tree f) (instance_at c.args.p.now (c.count-last.result - 1) f c.instance-s.ensures) in
+    let results = rw c.in_ok-results.ensures at c.lower_instance.ensures.results in
+    let chosen = results (st_func_tree f) (instance_at c.args.p.now (c.count-last.result - 1) f c.instance-s.ensures) in
     ap length c.deref-3.ensures.value ∙ chosen.long
 
 pub add_results-requires-clause-nets : goal.add_results-requires-clause-nets
 add_results-requires-clause-nets c r i nets at has =
     let f = c.instance-s.result.now in
-    let chosen = c.in-Ok.ensures.results (st_func_tree f) (instance_at c.args.p.now (c.count-last.result - 1) f c.instance-s.ensures) in
+    let results = rw c.in_ok-results.ensures at c.lower_instance.ensures.results in
+    let chosen = results (st_func_tree f) (instance_at c.args.p.now (c.count-last.result - 1) f c.instance-s.ensures) in
     (chosen.each r i nets at (ap (λ (bs : List (List NetId)). slice_get bs r) (sym c.deref-3.ensures.value) ∙ has)).there
 
 pub returns-clause-circuit : goal.returns-clause-circuit
@@ -141,11 +143,13 @@ returns-clause-circuit c s found =
     (ap st_trees c.deref.ensures.value) in
     let rst : c.new-clocks.result.rst ≡ 0 =
     ap (λ (q : Kept). q.rst) c.new-clocks.ensures ∙ (ap (λ (n : NetId). n.0) c.in_ok-rst.ensures.net ∙ ap (λ (n : Circuit). length n.cells) c.new-nl.ensures) in
+    let results = rw c.in_ok-results.ensures at c.lower_instance.ensures.results in
     let chosen = chosen_last instances (st_func_tree f) _ c.new-clocks.result.rst k _ _ _ _ rst last bundles (sym c.deref-3.ensures.value)
-    (c.in-Ok.ensures.results (st_func_tree f) here) in
-    let grown = subst (λ m. GrowsBy c.add_inputs.new.nl c.lower_instance.new.nl (instance_costs instances m).load) last c.in-Ok.ensures.grows in
+    (results (st_func_tree f) here) in
+    let grown = subst (λ m. GrowsBy c.add_inputs.new.nl c.lower_instance.new.nl (instance_costs instances m).load) last c.lower_instance.ensures.grows in
+    let adds = rw c.in_ok-results.ensures at c.lower_instance.ensures.adds in
     let adds = subst (λ m. Adds c.add_inputs.new.nl c.lower_instance.new.nl (instance_costs instances m).muls (instance_costs instances m).mems) last
-    c.in-Ok.ensures.adds in
+    adds in
     let made =
     circuit_made instances (st_func_tree f) _ _ _ c.deref-3.result.now
     (k, c.count-last.ensures.sound.each k (st_func_tree f) here) there begun grown adds chosen c.in_ok-add_results.ensures c.formed.ensures.cells
@@ -166,7 +170,8 @@ returns-clause-marks c s found =
     let here : slice_get (st_func_trees fs) k ≡ Some s = rw last found in
     let none : AreMarks (length c.add_inputs.new.nl.cells) 0 c.new-marks.result.items = rw c.new-marks.ensures.items
     (no_marks (length c.add_inputs.new.nl.cells)) in
-    let all : AreMarks (length c.lower_instance.new.nl.cells) (0 + length s.nodes) c.lower_instance.new.marks.items = c.in-Ok.ensures.marks s 0 here none in
+    let marks = rw c.in_ok-results.ensures at c.lower_instance.ensures.marks in
+    let all : AreMarks (length c.lower_instance.new.nl.cells) (0 + length s.nodes) c.lower_instance.new.marks.items = marks s 0 here none in
     let same : length c.lower_instance.new.nl.cells ≡ length c.add_results.new.nl.cells = ap (λ (n : Circuit). length n.cells)
     (sym c.in_ok-add_results.ensures.added) in
     let there : AreMarks (length c.add_results.new.nl.cells) (length s.nodes) c.lower_instance.new.marks.items =
@@ -184,7 +189,8 @@ returns-clause-nodes c s found =
     let here : slice_get (st_func_trees fs) k ≡ Some s = rw last found in
     let none : AreMarks (length c.add_inputs.new.nl.cells) 0 c.new-marks.result.items = rw c.new-marks.ensures.items
     (no_marks (length c.add_inputs.new.nl.cells)) in
-    let all : AreMarks (length c.lower_instance.new.nl.cells) (0 + length s.nodes) c.lower_instance.new.marks.items = c.in-Ok.ensures.marks s 0 here none in
+    let marks = rw c.in_ok-results.ensures at c.lower_instance.ensures.marks in
+    let all : AreMarks (length c.lower_instance.new.nl.cells) (0 + length s.nodes) c.lower_instance.new.marks.items = marks s 0 here none in
     let same : length c.lower_instance.new.nl.cells ≡ length c.add_results.new.nl.cells = ap (λ (n : Circuit). length n.cells)
     (sym c.in_ok-add_results.ensures.added) in
     let there : AreMarks (length c.add_results.new.nl.cells) (length s.nodes) c.lower_instance.new.marks.items =
@@ -200,9 +206,10 @@ returns-clause-nodes c s found =
     (begun_long (st_func_tree f).ins c.add_inputs.new.nl begun) in
     let kept : c.lower_instance.new.nl.cells ≡ c.add_results.new.nl.cells = ap (λ (n : Circuit). n.cells) (sym c.in_ok-add_results.ensures.added) in
     let front : number_of is_input c.lower_instance.new.nl.cells (length c.add_inputs.new.nl.cells) ≡ length c.add_inputs.new.nl.cells =
-    begun_inputs (st_func_tree f).ins c.add_inputs.new.nl c.lower_instance.new.nl begun c.in-Ok.ensures.grows.grows.extends in
+    begun_inputs (st_func_tree f).ins c.add_inputs.new.nl c.lower_instance.new.nl begun c.lower_instance.ensures.grows.grows.extends in
+    let nodes = rw c.in_ok-results.ensures at c.lower_instance.ensures.nodes in
     let made : AreNodeCells instances k s c.lower_instance.new.nl.cells
-    (length c.add_inputs.new.nl.cells) c.lower_instance.new.marks.items = c.in-Ok.ensures.nodes s here c.new-marks.ensures.items in
+    (length c.add_inputs.new.nl.cells) c.lower_instance.new.marks.items = nodes s here c.new-marks.ensures.items in
     let raw : AreNodeCells instances k s c.add_results.new.nl.cells (length c.add_inputs.new.nl.cells) c.lower_instance.new.marks.items =
     subst (λ (cells : List SizedCell). AreNodeCells instances k s cells (length c.add_inputs.new.nl.cells) c.lower_instance.new.marks.items) kept made in
     let front_there : number_of is_input c.add_results.new.nl.cells (length c.add_inputs.new.nl.cells) ≡ length c.add_inputs.new.nl.cells =
@@ -237,7 +244,8 @@ copied_sections-requires-clause-rising c = rw c.deref-4.ensures.value c.in_ok-ti
 
 pub copied_sections-requires-clause-sections : goal.copied_sections-requires-clause-sections
 copied_sections-requires-clause-sections c =
-    let have = c.in-Ok.ensures.sections (rw c.new-sections.ensures.items (sections_empty (length c.add_inputs.new.nl.cells))) in
+    let sections = rw c.in_ok-results.ensures at c.lower_instance.ensures.sections in
+    let have = sections (rw c.new-sections.ensures.items (sections_empty (length c.add_inputs.new.nl.cells))) in
     (length c.lower_instance.new.nl.cells, rw c.deref-5.ensures.value have.are)
 
 pub returns-clause-sections : goal.returns-clause-sections
@@ -260,7 +268,8 @@ returns-clause-covered c s found =
     let begin : length c.add_inputs.new.nl.cells ≡ 1 + length (input_ports (streams_of s.ins)) =
     subst (λ (u : StFuncTree). length c.add_inputs.new.nl.cells ≡ 1 + length (input_ports (streams_of u.ins))) is
     (begun_long (st_func_tree f).ins c.add_inputs.new.nl begun) in
-    let have = c.in-Ok.ensures.sections (rw c.new-sections.ensures.items (sections_empty (length c.add_inputs.new.nl.cells))) in
+    let sections = rw c.in_ok-results.ensures at c.lower_instance.ensures.sections in
+    let have = sections (rw c.new-sections.ensures.items (sections_empty (length c.add_inputs.new.nl.cells))) in
     let same : length c.lower_instance.new.nl.cells ≡ length c.add_results.new.nl.cells = ap (λ (n : Circuit). length n.cells)
     (sym c.in_ok-add_results.ensures.added) in
     let all : AreCovered (IsSectionWithin instances k) (length c.add_inputs.new.nl.cells)

@@ -1,5 +1,5 @@
 -- A netlist with one more input is formed, and its inputs are numbered.
-use Rattle.std.proofs.Common.{◌≡◌, length, ◌++◌, ◌∷◌, [], ap, arith, length-append}
+use Rattle.std.proofs.Common.{◌≡◌, ◌<◌, length, ◌++◌, ◌∷◌, [], ap, arith, length-append}
 use Rattle.ae_netlist.specs.declared.cell.NetId.{NetId}
 use Rattle.ae_netlist.specs.Circuit.{Circuit, SizedCellFits}
 use Rattle.ae_netlist.specs.Counts.{is_input}
@@ -7,16 +7,17 @@ use Rattle.ae_netlist.proofs.Growing.{formed_push, nets_later, keeps_extends, ex
 use Rattle.ae_netlist.proofs.Counting.{numbers_push}
 use Rattle.ae_netlist.proofs.netlist.Netlist.append_input.Goals as goal
 
-pub invariant_of-self-in-Ok-push : goal.invariant_of-self-in-Ok-push
-invariant_of-self-in-Ok-push c =
+pub invariant_of-self-in-Ok : goal.invariant_of-self-in-Ok
+invariant_of-self-in-Ok c =
     let net : NetId = record { 0 = c.len-net.result } in
     let same : c.self.inside.cells.items ≡ c.args.self.now.cells = ap (λ (v : Circuit). v.cells) c.self.view_is in
+    let room : length c.self.inside.cells.items < c.self.inside.limit = rw (same, ap (λ (v : Circuit). v.limit) c.self.view_is) c.requires.room in
     let fits : SizedCellFits c.self.inside.cells.items (c.self.inside.cells.items ++ c.args.sized ∷ [])
     (length c.self.inside.cells.items) c.args.sized = rw same c.requires.fits in
-    let cells : c.push-2.new.self.items ≡ c.self.inside.cells.items ++ c.args.sized ∷ [] = c.in-Ok-push.ensures.items in
-    let inputs : c.push.new.self.items ≡ c.self.inside.inputs.items ++ net ∷ [] = c.in-Ok.ensures.items in
+    let cells : c.push-2.new.self.items ≡ c.self.inside.cells.items ++ c.args.sized ∷ [] = c.in-Ok.ensures.items in
+    let inputs : c.push.new.self.items ≡ c.self.inside.inputs.items ++ net ∷ [] = c.in_ok-push.ensures.items in
     rw (cells, inputs) (
-      omega (arith, length-append c.self.inside.cells.items (c.args.sized ∷ [])),
+      omega (arith, room, length-append c.self.inside.cells.items (c.args.sized ∷ [])),
       formed_push _ _ c.self.invariant.1 fits,
       nets_later _ _ _ (keeps_extends (extends_append _ _)) c.self.invariant.2,
       numbers_push is_input _ c.args.sized _ net c.requires.input (grind (arith, c.len-net.ensures)) c.self.invariant.3,
