@@ -60,7 +60,7 @@ fn inner_time(s: &StType) -> u64
 {
     match s {
         StType::T { n: _, i: _, of } => u64::from(of.time()),
-        _ => 1,
+        StType::S { .. } | StType::Atom(_) => 1,
     }
 }
 

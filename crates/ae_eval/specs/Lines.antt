@@ -1,8 +1,8 @@
 -- The lines of a program's functions, their values, and the values of functions and of programs.
 use Rattle.std.specs.Prelude.{◌≡◌, ℕ, ◌+◌, ◌-◌, ◌≤◌, Bool, true, false, List, [], ◌∷◌, length, take, drop, map, Option, Some, None, slice_get, IsTrue}
-use Rattle.ae_seqtype.specs.SeqTree.{SeqTree, seq}
+use Rattle.ae_seqtype.specs.SeqTree.{SeqTree, atom, seq}
 use Rattle.ae_seqtype.specs.ValueTree.{ValueTree, end}
-use Rattle.ae_seq.specs.ProgramTree.{OpTree, call, each, each_two, FuncTree, NodeTree, ProgramTree}
+use Rattle.ae_seq.specs.ProgramTree.{FuncTree, NodeTree, ProgramTree, OpTree, word, cast_int, pair, fst, snd, const, zip, call, each, each_two, reduce, scan, shift, up, select, partition, unpartition}
 use Rattle.ae_seq.specs.Typing.{type_at}
 use Rattle.ae_seq.specs.Meaning.{Meaning, at, meanings, node_value}
 use Rattle.ae_eval.specs.Stack.{FitIn, params_in, somes, types_in, values_in}
@@ -45,10 +45,23 @@ line_value p k j vs = value_for (take k (meanings p.funcs)) vs (slice_get (nodes
 
 -- an operator that calls no function
 abbrev pub is_plain : OpTree → Bool
+is_plain (word op) = true
+is_plain (cast_int v) = true
+is_plain pair = true
+is_plain fst = true
+is_plain snd = true
+is_plain (const t ws) = true
+is_plain zip = true
 is_plain (call f) = false
 is_plain (each f) = false
 is_plain (each_two f) = false
-is_plain _ = true
+is_plain (reduce op) = true
+is_plain (scan op) = true
+is_plain (shift k) = true
+is_plain (up n) = true
+is_plain (select k) = true
+is_plain (partition n m) = true
+is_plain unpartition = true
 
 abbrev pub IsPlainFor : Option NodeTree → Type 0
 IsPlainFor None = ⊥
@@ -83,16 +96,18 @@ pub record Passed (ts : List SeqTree) (vs : List ValueTree) (items : List ℕ) (
 -- a function takes one element of a sequence, one element of each of two sequences as long as each other
 abbrev pub TakesEach : SeqTree → List SeqTree → Type 0
 TakesEach (seq n t) ps = ps ≡ t ∷ []
-TakesEach _ ps = ⊥
+TakesEach (atom a) ps = ⊥
 
 abbrev pub TakesEachTwo : SeqTree → SeqTree → List SeqTree → Type 0
 TakesEachTwo (seq n t) (seq m u) ps = (n ≡ m) × (ps ≡ t ∷ u ∷ [])
-TakesEachTwo _ _ ps = ⊥
+TakesEachTwo (atom a) u ps = ⊥
+TakesEachTwo (seq n t) (atom b) ps = ⊥
 
 -- as many elements as the sequence has, of the type that there is
 abbrev pub each_of : SeqTree → Option SeqTree → Option SeqTree
 each_of (seq n t) (Some u) = Some (seq n u)
-each_of _ _ = None
+each_of (seq n t) None = None
+each_of (atom a) u = None
 
 -- the types of the results of function number k
 abbrev pub types_of_items : ProgramTree → ℕ → List ℕ → List SeqTree

@@ -6,7 +6,7 @@ use Rattle.ae_word.specs.AtomTree.{WordKind}
 use Rattle.ae_seqtype.specs.SeqTree.{SeqTree, words, kinds}
 use Rattle.ae_seqtype.specs.ValueTree.{ValueTree, FitKinds, Fit, Stands, value_of}
 use Rattle.ae_word.specs.WordTable.{arity_of, folds}
-use Rattle.ae_seq.specs.ProgramTree.{OpTree, word, cast_int, pair, fst, snd, zip, each, each_two, reduce, scan, shift, up, select, partition, unpartition, FuncTree, ProgramTree}
+use Rattle.ae_seq.specs.ProgramTree.{FuncTree, ProgramTree, OpTree, word, cast_int, pair, fst, snd, const, zip, call, each, each_two, reduce, scan, shift, up, select, partition, unpartition}
 use Rattle.ae_seq.specs.Formed.{formed}
 use Rattle.ae_seq.specs.Typing.{Signature, item_types, param_types, refused_line, signatures}
 use Rattle.ae_seq.specs.Signatures.{result_in}
@@ -131,9 +131,14 @@ pub record Evaluated (p : ProgramTree) (k base : ℕ) (old new : List ℕ) : Typ
 abbrev pub takes_one : OpTree → Bool
 takes_one (word op) = arity_of op == 1
 takes_one (cast_int v) = true
+takes_one pair = false
 takes_one fst = true
 takes_one snd = true
+takes_one (const t ws) = false
+takes_one zip = false
+takes_one (call f) = false
 takes_one (each f) = true
+takes_one (each_two f) = false
 takes_one (reduce op) = true
 takes_one (scan op) = true
 takes_one (shift k) = true
@@ -141,17 +146,42 @@ takes_one (up n) = true
 takes_one (select k) = true
 takes_one (partition n m) = true
 takes_one unpartition = true
-takes_one _ = false
 
 abbrev pub takes_two : OpTree → Bool
 takes_two (word op) = arity_of op == 2
+takes_two (cast_int v) = false
 takes_two pair = true
+takes_two fst = false
+takes_two snd = false
+takes_two (const t ws) = false
 takes_two zip = true
+takes_two (call f) = false
+takes_two (each f) = false
 takes_two (each_two f) = true
-takes_two _ = false
+takes_two (reduce op) = false
+takes_two (scan op) = false
+takes_two (shift k) = false
+takes_two (up n) = false
+takes_two (select k) = false
+takes_two (partition n m) = false
+takes_two unpartition = false
 
 -- elements are folded by an operator that folds
 abbrev pub AreFolds : OpTree → Type 0
+AreFolds (word op) = Unit {0}
+AreFolds (cast_int v) = Unit {0}
+AreFolds pair = Unit {0}
+AreFolds fst = Unit {0}
+AreFolds snd = Unit {0}
+AreFolds (const t ws) = Unit {0}
+AreFolds zip = Unit {0}
+AreFolds (call f) = Unit {0}
+AreFolds (each f) = Unit {0}
+AreFolds (each_two f) = Unit {0}
 AreFolds (reduce op) = IsTrue (folds op)
 AreFolds (scan op) = IsTrue (folds op)
-AreFolds _ = Unit {0}
+AreFolds (shift k) = Unit {0}
+AreFolds (up n) = Unit {0}
+AreFolds (select k) = Unit {0}
+AreFolds (partition n m) = Unit {0}
+AreFolds unpartition = Unit {0}

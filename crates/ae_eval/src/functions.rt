@@ -105,7 +105,20 @@ fn eval_node(
                 stack,
             )
         }
-        _ => push_plain(p, starts, func, index, stack, base),
+        Op::Word(_)
+        | Op::CastInt(_)
+        | Op::Pair
+        | Op::Fst
+        | Op::Snd
+        | Op::Const(_, _)
+        | Op::Zip
+        | Op::Reduce(_)
+        | Op::Scan(_)
+        | Op::Shift(_)
+        | Op::Up(_)
+        | Op::Select(_)
+        | Op::Partition(_, _)
+        | Op::Unpartition => push_plain(p, starts, func, index, stack, base),
     }
 }
 

@@ -41,7 +41,8 @@ pub fn push_one(stack: &mut Vec<u64>, op: &Op, ty: &SeqType, start: usize) -> Re
         Op::Select(place) => push_selected(stack, *place, ty, start),
         Op::Partition(pieces, size) => push_partitioned(stack, *pieces, *size, ty, start),
         Op::Unpartition => push_unpartitioned(stack, ty, start),
-        _ => unreachable!(),
+        Op::Pair | Op::Const(_, _) | Op::Zip | Op::Call(_) | Op::Map(_) | Op::Map2(_) =>
+            unreachable!(),
     }
 }
 
@@ -69,6 +70,19 @@ pub fn push_two(
         Op::Word(op) => push_two_words(stack, *op, ty, start, other, place),
         Op::Pair => push_pair(stack, ty, start, other, place),
         Op::Zip => push_zipped(stack, ty, start, other, place),
-        _ => unreachable!(),
+        Op::CastInt(_)
+        | Op::Fst
+        | Op::Snd
+        | Op::Const(_, _)
+        | Op::Call(_)
+        | Op::Map(_)
+        | Op::Map2(_)
+        | Op::Reduce(_)
+        | Op::Scan(_)
+        | Op::Shift(_)
+        | Op::Up(_)
+        | Op::Select(_)
+        | Op::Partition(_, _)
+        | Op::Unpartition => unreachable!(),
     }
 }

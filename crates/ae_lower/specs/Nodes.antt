@@ -7,7 +7,7 @@ use Rattle.ae_ops.specs.Blocks.{AllAreWords, AreBundles, Part, stream_of}
 use Rattle.ae_gather.specs.Gathers.{Layouts, gather_part, move_of}
 use Rattle.ae_fold.specs.Shapes.{FoldShape}
 use Rattle.ae_reduce.specs.Reduces.{reduce_part}
-use Rattle.ae_rewrite.specs.StProgramTree.{StOpTree, body, StNodeTree, StFuncTree}
+use Rattle.ae_rewrite.specs.StProgramTree.{StNodeTree, StFuncTree, StOpTree, word, join, first, second, fixed, move, fold, scan, body}
 use Rattle.ae_rewrite.specs.Scheduled.{IsFilling, AreFilling}
 use Rattle.ae_rewrite.specs.Sound.{IsSoundOp, item_layout, item_layouts}
 use Rattle.ae_delay.specs.declared.own.OwnCosts.{OwnCosts}
@@ -31,8 +31,15 @@ node_part known d s n =
 
 -- a node calls no other instance
 abbrev pub CallsNothing : StOpTree → Type 0
+CallsNothing (word op) = Unit {0}
+CallsNothing join = Unit {0}
+CallsNothing first = Unit {0}
+CallsNothing second = Unit {0}
+CallsNothing (fixed ws) = Unit {0}
+CallsNothing (move how) = Unit {0}
+CallsNothing (fold op slots lanes raw) = Unit {0}
+CallsNothing (scan op slots lanes) = Unit {0}
 CallsNothing (body k) = ⊥
-CallsNothing _ = Unit {0}
 
 -- what a node that calls nothing costs
 abbrev pub plain_costs : StFuncTree → StNodeTree → OwnCosts

@@ -111,7 +111,7 @@ fn elements_of(s: &StType, lanes: u32) -> &StType
             }
             match &**of {
                 StType::S { n: _, of } => of,
-                _ => unreachable!(),
+                StType::T { .. } | StType::Atom(_) => unreachable!(),
             }
         }
         StType::Atom(_) => unreachable!(),

@@ -55,10 +55,23 @@ each_call g clocks o =
 
 -- what a node calls, where its first argument is spread so
 abbrev pub call_of : OpTree → (clocks : ℕ) → Option Spreading → Option Call
+call_of (word op) clocks o = None
+call_of (cast_int v) clocks o = None
+call_of pair clocks o = None
+call_of fst clocks o = None
+call_of snd clocks o = None
+call_of (const t ws) clocks o = None
+call_of zip clocks o = None
 call_of (call g) clocks o = Some (record { func = g; budget = clocks; copies = 1 })
 call_of (each g) clocks o = each_call g clocks o
 call_of (each_two g) clocks o = each_call g clocks o
-call_of _ clocks o = None
+call_of (reduce op) clocks o = None
+call_of (scan op) clocks o = None
+call_of (shift k) clocks o = None
+call_of (up n) clocks o = None
+call_of (select k) clocks o = None
+call_of (partition n m) clocks o = None
+call_of unpartition clocks o = None
 
 abbrev pub called_by : ProgramTree → (func budget : ℕ) → NodeTree → Option Call
 called_by p f clocks n = call_of n.op clocks (spread_at p f clocks (head n.args))

@@ -90,7 +90,20 @@ pub fn called_by(p: &Typed, func: u32, budget: u32, node: &Node) -> Option<Call>
             Some(spread) => Some(each_call(callee, budget, &spread)),
             None => None,
         },
-        _ => None,
+        Op::Word(_)
+        | Op::CastInt(_)
+        | Op::Pair
+        | Op::Fst
+        | Op::Snd
+        | Op::Const(_, _)
+        | Op::Zip
+        | Op::Reduce(_)
+        | Op::Scan(_)
+        | Op::Shift(_)
+        | Op::Up(_)
+        | Op::Select(_)
+        | Op::Partition(_, _)
+        | Op::Unpartition => None,
     }
 }
 

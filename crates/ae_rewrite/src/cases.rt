@@ -80,7 +80,7 @@ impl Case {
     {
         match self {
             Case::Spread => clocks / n,
-            _ => 1,
+            Case::Parallel | Case::Padded | Case::Grouped | Case::Folded(_) => 1,
         }
     }
 }

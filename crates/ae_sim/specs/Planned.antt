@@ -28,8 +28,12 @@ pub record AreSteps (cells : List SizedCell) (n : ℕ) (steps : List Step) : Typ
       → slice_get steps i ≡ Some (step_for cells i sized.width sized.cell)
 
 abbrev pub next_of : Cell → ℕ
+next_of (Input port) = 0
+next_of (Const k) = 0
+next_of (Op op args) = 0
 next_of (Reg next) = next.0
-next_of _ = 0
+next_of (Mem depth at next enable) = 0
+next_of (Peek mem at) = 0
 
 -- what a register takes, and what it begins with
 abbrev pub register_for : ℕ → SizedCell → Register
@@ -46,9 +50,13 @@ abbrev pub memory_tree : Memory → MemoryTree
 memory_tree m = record { at = m.at; next = m.next; enable = m.enable; words = m.words.items }
 
 abbrev pub tree_of : ℕ → Cell → MemoryTree
+tree_of word (Input port) = record { at = 0; next = 0; enable = 0; words = [] }
+tree_of word (Const k) = record { at = 0; next = 0; enable = 0; words = [] }
+tree_of word (Op op args) = record { at = 0; next = 0; enable = 0; words = [] }
+tree_of word (Reg next) = record { at = 0; next = 0; enable = 0; words = [] }
 tree_of word (Mem depth at next enable) =
     record { at = at.0; next = next.0; enable = enable.0; words = replicate depth word }
-tree_of word _ = record { at = 0; next = 0; enable = 0; words = [] }
+tree_of word (Peek mem at) = record { at = 0; next = 0; enable = 0; words = [] }
 
 abbrev pub filled_memory : ℕ → SizedCell → MemoryTree
 filled_memory word sized = tree_of word sized.cell
@@ -58,8 +66,12 @@ memory_for fill sized = filled_memory (fill % 2 ^ sized.width) sized
 
 -- a memory writes what and where its cell says
 abbrev pub WritesAs : Memory → Cell → Type 0
+WritesAs memory (Input port) = Unit {0}
+WritesAs memory (Const k) = Unit {0}
+WritesAs memory (Op op args) = Unit {0}
+WritesAs memory (Reg next) = Unit {0}
 WritesAs memory (Mem depth at next enable) = (memory.at ≡ at.0) × (memory.next ≡ next.0) × (memory.enable ≡ enable.0)
-WritesAs memory _ = Unit {0}
+WritesAs memory (Peek mem at) = Unit {0}
 
 -- the memories of cells, each by its number
 pub record AreMemories (cells : List SizedCell) (memories : List Memory) : Type 0 where

@@ -26,6 +26,7 @@ pub fn compute(op: WordOp, mask: u64, a: u64, b: u64, c: u64) -> u64
         WordOp::Shl(k) => { if k < 64 { (a << k) & mask } else { 0 } }
         WordOp::Shr(k) => { if k < 64 { a >> k } else { 0 } }
         WordOp::Cast(_) => a & mask,
-        _ => unreachable!(),
+        WordOp::SLt | WordOp::SMin | WordOp::SMax | WordOp::Sar(_) | WordOp::SCast(_) =>
+            unreachable!(),
     }
 }

@@ -67,7 +67,8 @@ fn one_if_memory(cell: Cell) -> u32
 {
     match cell {
         Cell::Mem { .. } => 1,
-        _ => 0,
+        Cell::Input(_) | Cell::Const(_) | Cell::Op(_, _) | Cell::Reg { .. } | Cell::Peek { .. } =>
+            0,
     }
 }
 
@@ -76,7 +77,8 @@ fn one_if_input(cell: Cell) -> u32
 {
     match cell {
         Cell::Input(_) => 1,
-        _ => 0,
+        Cell::Const(_) | Cell::Op(_, _) | Cell::Reg { .. } | Cell::Mem { .. } | Cell::Peek { .. } =>
+            0,
     }
 }
 
@@ -85,7 +87,8 @@ fn one_if_register(cell: Cell) -> u32
 {
     match cell {
         Cell::Reg { .. } => 1,
-        _ => 0,
+        Cell::Input(_) | Cell::Const(_) | Cell::Op(_, _) | Cell::Mem { .. } | Cell::Peek { .. } =>
+            0,
     }
 }
 

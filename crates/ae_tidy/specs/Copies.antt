@@ -3,7 +3,7 @@ use Rattle.std.specs.Prelude.{◌≡◌, ℕ, ◌<◌, ◌≤◌, Bool, List, Op
 use Rattle.ae_netlist.specs.declared.cell.NetId.{NetId}
 use Rattle.ae_netlist.specs.declared.cell.Port.{Port}
 use Rattle.ae_netlist.specs.declared.cell.Cell.{Cell}
-use Rattle.ae_netlist.specs.declared.cell.Cell.TheVariants.{Reg, Mem}
+use Rattle.ae_netlist.specs.declared.cell.Cell.TheVariants.{Input, Const, Op, Reg, Mem, Peek}
 use Rattle.ae_netlist.specs.declared.cell.SizedCell.{SizedCell}
 use Rattle.ae_netlist.specs.declared.cell.Outlet.{Outlet}
 use Rattle.ae_netlist.specs.Circuit.{IsAllowed, IsNet, IsWritten}
@@ -38,15 +38,22 @@ pub record IsCopied (old : List SizedCell) (keep : List Bool) (new : List SizedC
 
 -- a memory has words, and not too many
 abbrev pub HasDepth : Cell → Type 0
+HasDepth (Input port) = Unit {0}
+HasDepth (Const k) = Unit {0}
+HasDepth (Op op args) = Unit {0}
+HasDepth (Reg next) = Unit {0}
 HasDepth (Mem depth at next enable) = (1 ≤ depth) × (depth ≤ 65536)
-HasDepth _ = Unit {0}
+HasDepth (Peek mem at) = Unit {0}
 
 -- a cell that may be added; a register and a memory may name any nets that are there
 abbrev pub MayFollow : List SizedCell → ℕ → Cell → Type 0
 MayFollow cells width (Reg next) = IsNet cells next.0 width
 MayFollow cells width (Mem depth at next enable) =
     (1 ≤ depth) × (depth ≤ 65536) × IsWritten cells width depth at.0 next.0 enable.0
-MayFollow cells width cell = IsAllowed cells width cell
+MayFollow cells width (Input port) = IsAllowed cells width (Input port)
+MayFollow cells width (Const k) = IsAllowed cells width (Const k)
+MayFollow cells width (Op op args) = IsAllowed cells width (Op op args)
+MayFollow cells width (Peek mem at) = IsAllowed cells width (Peek mem at)
 
 -- the outputs so far show the nets in the places of those that the old ones show
 abbrev pub wanted : List (Option NetId) → List Outlet → List (Port × Option (Option NetId))

@@ -10,14 +10,20 @@ use Rattle.ae_netlist.specs.Counts.{is_input, is_product, number_of}
 -- inputs and products are kept each for itself; of other cells one may stand for all that are equal
 abbrev pub may_merge : Cell → Bool
 may_merge (Input port) = false
+may_merge (Const k) = true
 may_merge (Op op args) = not (is_product op)
-may_merge _ = true
+may_merge (Reg next) = true
+may_merge (Mem depth at next enable) = true
+may_merge (Peek mem at) = true
 
 -- a register or a memory that takes a net that does not stand before it
 abbrev pub late_cell : ℕ → Cell → Bool
+late_cell n (Input port) = false
+late_cell n (Const k) = false
+late_cell n (Op op args) = false
 late_cell n (Reg next) = nat_le n next.0
 late_cell n (Mem depth at next enable) = nat_le n at.0 || (nat_le n next.0 || nat_le n enable.0)
-late_cell n _ = false
+late_cell n (Peek mem at) = false
 
 abbrev pub late_in : ℕ → Option SizedCell → Bool
 late_in n None = false
@@ -28,8 +34,12 @@ is_late old n = late_in n (slice_get old n)
 
 -- a register or a memory that names itself: it is not connected
 abbrev pub fresh_cell : (own : ℕ) → Cell → Cell
+fresh_cell own (Input port) = Reg (record { 0 = own })
+fresh_cell own (Const k) = Reg (record { 0 = own })
+fresh_cell own (Op op args) = Reg (record { 0 = own })
+fresh_cell own (Reg next) = Reg (record { 0 = own })
 fresh_cell own (Mem depth at next enable) = Mem depth (record { 0 = own }) (record { 0 = own }) (record { 0 = own })
-fresh_cell own _ = Reg (record { 0 = own })
+fresh_cell own (Peek mem at) = Reg (record { 0 = own })
 
 -- a connected cell that may stand for others
 pub record IsThere (cells : List SizedCell) (net : ℕ) (sized : SizedCell) : Type 0 where

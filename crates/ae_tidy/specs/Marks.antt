@@ -3,7 +3,7 @@ use Rattle.std.specs.Prelude.{◌≡◌, ℕ, ◌+◌, ◌<◌, ◌≤◌, ◌�
 use Rattle.std.specs.List.{count_by}
 use Rattle.ae_netlist.specs.declared.cell.NetId.{NetId}
 use Rattle.ae_netlist.specs.declared.cell.Cell.{Cell}
-use Rattle.ae_netlist.specs.declared.cell.Cell.TheVariants.{Input, Op, Reg, Mem, Peek}
+use Rattle.ae_netlist.specs.declared.cell.Cell.TheVariants.{Input, Const, Op, Reg, Mem, Peek}
 use Rattle.ae_netlist.specs.declared.cell.SizedCell.{SizedCell}
 use Rattle.ae_netlist.specs.declared.cell.Outlet.{Outlet}
 use Rattle.ae_netlist.specs.Circuit.{Circuit, operand}
@@ -11,11 +11,12 @@ use Rattle.ae_netlist.specs.Counts.{is_mul}
 
 -- so it is of each net that a cell reads
 abbrev pub EachRead : (ℕ → Type 0) → Cell → Type 0
+EachRead P (Input port) = Unit {0}
+EachRead P (Const k) = Unit {0}
 EachRead P (Op op args) = P (operand args 0) × P (operand args 1) × P (operand args 2)
 EachRead P (Reg next) = P next.0
 EachRead P (Mem depth at next enable) = P at.0 × P next.0 × P enable.0
 EachRead P (Peek mem at) = P mem.0 × P at.0
-EachRead P _ = Unit {0}
 
 pub record IsKept (keep : List Bool) (n : ℕ) : Type 0 where
   pub kept : slice_get keep n ≡ Some true

@@ -115,7 +115,7 @@ fn connect_cell(nl: &Netlist, _keep: &[bool], m: u32, new: &mut Netlist, table: 
                 new.connect_memory(NetId(m), place, word, bit);
             }
         }
-        _ => {}
+        Cell::Input(_) | Cell::Const(_) | Cell::Op(_, _) | Cell::Peek { .. } => {}
     }
 }
 

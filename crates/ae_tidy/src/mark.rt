@@ -52,7 +52,7 @@ fn reach_reads(keep: &mut Vec<bool>, line: &mut Vec<NetId>, cell: Cell) -> Resul
             reach(keep, line, mem)?;
             reach(keep, line, at)?;
         }
-        _ => {}
+        Cell::Input(_) | Cell::Const(_) => {}
     }
     Ok(())
 }

@@ -27,7 +27,7 @@ pub fn is_late(own: NetId, cell: Cell) -> bool
             next,
             enable,
         } => own.0 <= at.0 || own.0 <= next.0 || own.0 <= enable.0,
-        _ => false,
+        Cell::Input(_) | Cell::Const(_) | Cell::Op(_, _) | Cell::Peek { .. } => false,
     }
 }
 
@@ -111,7 +111,7 @@ impl Table {
                 mem: self.net(mem),
                 at: self.net(at),
             },
-            _ => cell,
+            Cell::Input(_) | Cell::Const(_) => cell,
         }
     }
 }

@@ -5,7 +5,7 @@ use Rattle.std.proofs.Common.{◌≡◌, ◌+◌, ◌-◌, ◌<◌, ◌≤◌, t
 use Rattle.std.proofs.lemmas.List.{length-map}
 use Rattle.std.proofs.lemmas.Option.{slice_get_within}
 use Rattle.std.proofs.lemmas.Result.{on_ok_weaker}
-use Rattle.ae_ops.proofs.Lateness.{keeps_trans}
+use Rattle.ae_clocked.proofs.InRow.{keeps_trans}
 use Rattle.ae_rewrite.specs.StProgramTree.{st_func_tree, st_func_trees, st_node_tree}
 use Rattle.ae_delay.specs.Costs.{latest}
 use Rattle.ae_retime.specs.Slacks.{joint_slacks}

@@ -4,7 +4,7 @@ use Rattle.std.proofs.lemmas.List.{length-map}
 use Rattle.std.proofs.lemmas.Option.{same_Some}
 use Rattle.std.proofs.lemmas.Result.{on_ok_weaker}
 use Rattle.ae_netlist.specs.declared.cell.NetId.{NetId}
-use Rattle.ae_ops.proofs.Lateness.{keeps_trans}
+use Rattle.ae_clocked.proofs.InRow.{keeps_trans}
 use Rattle.ae_rewrite.specs.StProgramTree.{StFuncTree, st_func_tree, st_func_trees, st_node_tree}
 use Rattle.ae_flow.specs.Flow.{callees}
 use Rattle.ae_lower.specs.Growth.{GrowsBy}

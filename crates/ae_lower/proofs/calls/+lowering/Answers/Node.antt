@@ -4,7 +4,7 @@ use Rattle.std.proofs.lemmas.Option.{slice_get_within}
 use Rattle.std.proofs.lemmas.Result.{on_ok_weaker}
 use Rattle.ae_netlist.specs.declared.cell.NetId.{NetId}
 use Rattle.ae_ops.specs.Blocks.{AreBundles}
-use Rattle.ae_ops.proofs.Lateness.{keeps_trans}
+use Rattle.ae_clocked.proofs.InRow.{keeps_trans}
 use Rattle.ae_rewrite.specs.StProgramTree.{StFuncTree, body, st_func_tree, st_func_trees, st_node_tree, st_op_tree}
 use Rattle.ae_rewrite.specs.Sound.{item_layouts}
 use Rattle.ae_delay.specs.declared.own.OwnCosts.{OwnCosts}
