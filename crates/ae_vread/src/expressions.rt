@@ -260,8 +260,10 @@ fn parts<'t, 'a>(
 ) -> Result<Parts<'t, 'a>, ReadFault>
     ensures { Gives parts_view result (parts (expression budget) (length (views tokens.now)) (parts_of [] 0 (views tokens.now))) }
 {
+    // Most have one part, and the least room that a push makes is for four.
+    let trees = Vec::with_capacity(alloc, 1)?;
     let mut held = Parts {
-        trees: Vec::new(alloc),
+        trees,
         depth: 0,
         rest: tokens,
     };
