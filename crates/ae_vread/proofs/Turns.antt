@@ -1,6 +1,6 @@
 -- One turn of the loops over operators and over parts.
-use Rattle.std.proofs.Common.{◌≡◌, ℕ, zero, suc, ◌+◌, ◌-◌, ◌<◌, ◌≤◌, List, [], ◌∷◌, Bool, true, false, Option, Some, None, Result, refl, sym, ap, ◌∙◌, subst, arith, length}
-use Rattle.ae_vtoken.specs.Tokens.{TokenTree}
+use Rattle.std.proofs.Common.{◌≡◌, ℕ, zero, suc, ◌+◌, ◌-◌, ◌<◌, ◌≤◌, List, [], ◌∷◌, Bool, true, false, Option, Some, None, Result, refl, sym, ap, ◌∙◌, subst, arith, length, ◌++◌, max}
+use Rattle.ae_vtoken.specs.Tokens.{TokenTree, Mark}
 use Rattle.ae_vread.specs.declared.module.BinOp.{BinOp}
 use Rattle.ae_vread.specs.declared.reading.ReadFault.{ReadFault}
 use Rattle.ae_vread.specs.declared.reading.ReadFault.TheVariants.{Syntax, Memory}
@@ -8,7 +8,9 @@ use Rattle.ae_vtoken.specs.declared.token.Token.{Token}
 use Rattle.ae_vread.specs.ExprForms.{strength}
 use Rattle.ae_vtoken.specs.Scan.{views}
 use Rattle.ae_vread.specs.TokenTests.{◌>>=◌}
-use Rattle.ae_vread.specs.Reading.{Found, Reader, Parts, with_part, more_parts, parts, infix_at, joined, after_operator, operators, chosen, joined_at, expression}
+use Rattle.ae_vtoken.specs.declared.token.Sign.TheVariants.{Comma}
+use Rattle.ae_vread.specs.ModuleTree.{name}
+use Rattle.ae_vread.specs.Reading.{Found, found, Reader, Parts, parts_of, with_part, more_parts, part_then, parts, infix_at, joined, after_operator, operators, chosen, joined_at, expression}
 use Rattle.ae_vread.specs.ReadView.{Fails, Gives, Goes}
 
 pub length_views : (ts : List Token) → length (views ts) ≡ length ts
@@ -59,27 +61,40 @@ pub last_turn : (e : Option Found) (read : Reader) (n least : ℕ) (x : Found) �
 last_turn e read n least x past so_far = so_far ∙ ap (λ k. operators read k least x) (let e : 256 - n ≡ 0 = omega arith in e)
 
 -- a part more
-parts_turn : (read : Reader) (m n : ℕ) (p : Parts) (x : Found) → n < m → read 1 p.rest ≡ Some x
-    → parts read (m - n) p ≡ more_parts (parts read (m - (n + 1))) (with_part p x)
-parts_turn read m n p x below h =
-    ap (λ k. parts read k p) (let e : m - n ≡ suc (m - (n + 1)) = omega arith in e)
-    ∙ ap (λ o. o >>= λ x. more_parts (parts read (m - (n + 1))) (with_part p x)) h
+parts_turn : (read : Reader) (m n : ℕ) (p : Parts) → n < m → parts read (m - n) p ≡ part_then read (parts read (m - (n + 1))) p
+parts_turn read m n p below = ap (λ k. parts read k p) (let e : m - n ≡ suc (m - (n + 1)) = omega arith in e)
 
-pub parts_fail : (fault : ReadFault) (e : Option Parts) (read : Reader) (m n : ℕ) (p : Parts) (x : Found) → n < m → e ≡ parts read (m - n) p
-    → read 1 p.rest ≡ Some x → ((go_on : Parts → Option Parts) → Fails fault (more_parts go_on (with_part p x))) → Fails fault e
-parts_fail Syntax e read m n p x below so_far h step = so_far ∙ parts_turn read m n p x below h ∙ step (parts read (m - (n + 1)))
-parts_fail Memory e read m n p x below so_far h step = tt
+pub parts_fail : (fault : ReadFault) (e : Option Parts) (read : Reader) (m n : ℕ) (p : Parts) → n < m → e ≡ parts read (m - n) p
+    → ((go_on : Parts → Option Parts) → Fails fault (part_then read go_on p)) → Fails fault e
+parts_fail Syntax e read m n p below so_far step = so_far ∙ parts_turn read m n p below ∙ step (parts read (m - (n + 1)))
+parts_fail Memory e read m n p below so_far step = tt
 
-pub parts_end : {X : Type 0} (view : X → Parts) (next : X) (more : Bool) (e : Option Parts) (read : Reader) (m n : ℕ) (p : Parts) (x : Found) → more ≡ false
-    → n < m → e ≡ parts read (m - n) p → read 1 p.rest ≡ Some x
-    → ((go_on : Parts → Option Parts) → Goes view go_on (λ p. p) next more (more_parts go_on (with_part p x))) → e ≡ Some (view next)
-parts_end view next more e read m n p x last below so_far h step =
-    so_far ∙ parts_turn read m n p x below h ∙ subst (λ b. Goes view (parts read (m - (n + 1))) (λ p. p) next b
-    (more_parts (parts read (m - (n + 1))) (with_part p x))) last (step (parts read (m - (n + 1))))
+pub parts_end : {X : Type 0} (view : X → Parts) (next : X) (more : Bool) (e : Option Parts) (read : Reader) (m n : ℕ) (p : Parts) → more ≡ false
+    → n < m → e ≡ parts read (m - n) p → ((go_on : Parts → Option Parts) → Goes view go_on (λ p. p) next more (part_then read go_on p)) → e ≡ Some (view next)
+parts_end view next more e read m n p last below so_far step =
+    so_far ∙ parts_turn read m n p below ∙ subst (λ b. Goes view (parts read (m - (n + 1))) (λ p. p) next b
+    (part_then read (parts read (m - (n + 1))) p)) last (step (parts read (m - (n + 1))))
 
-pub parts_next : {X : Type 0} (view : X → Parts) (next : X) (more : Bool) (e : Option Parts) (read : Reader) (m n : ℕ) (p : Parts) (x : Found) → more ≡ true
-    → n < m → e ≡ parts read (m - n) p → read 1 p.rest ≡ Some x
-    → ((go_on : Parts → Option Parts) → Goes view go_on (λ p. p) next more (more_parts go_on (with_part p x))) → e ≡ parts read (m - (n + 1)) (view next)
-parts_next view next more e read m n p x last below so_far h step =
-    so_far ∙ parts_turn read m n p x below h ∙ subst (λ b. Goes view (parts read (m - (n + 1))) (λ p. p) next b
-    (more_parts (parts read (m - (n + 1))) (with_part p x))) last (step (parts read (m - (n + 1))))
+pub parts_next : {X : Type 0} (view : X → Parts) (next : X) (more : Bool) (e : Option Parts) (read : Reader) (m n : ℕ) (p : Parts) → more ≡ true
+    → n < m → e ≡ parts read (m - n) p → ((go_on : Parts → Option Parts) → Goes view go_on (λ p. p) next more (part_then read go_on p))
+    → e ≡ parts read (m - (n + 1)) (view next)
+parts_next view next more e read m n p last below so_far step =
+    so_far ∙ parts_turn read m n p below ∙ subst (λ b. Goes view (parts read (m - (n + 1))) (λ p. p) next b
+    (part_then read (parts read (m - (n + 1))) p)) last (step (parts read (m - (n + 1))))
+
+-- a name with a comma behind it is a part as it stands
+pub lone_next : {X : Type 0} (view : X → Parts) (next : X) (read : Reader) (p : Parts) (n : List ℕ) (us : List TokenTree) (go_on : Parts → Option Parts)
+    → read 1 p.rest ≡ Some (found (name n) 1 (Mark Comma ∷ us)) → Some (parts_of (p.trees ++ name n ∷ []) (max p.depth 1) us) ≡ Some (view next)
+    → part_then read go_on p ≡ go_on (view next)
+lone_next view next read p n us go_on lone made =
+    ap (λ o. o >>= λ x. more_parts go_on (with_part p x)) lone ∙ ap go_on (let e : parts_of (p.trees ++ name n ∷ []) (max p.depth 1) us ≡ view next = cc in e)
+
+-- behind what was read, only want of memory is a fault
+pub lone_fail : {X Y : Type 0} (fault : ReadFault) (x : X) (read : Option Y) → Fails fault (Some x) → Fails fault read
+lone_fail Syntax x read h = absurd (let e : Some x ≡ None = h in cc)
+lone_fail Memory x read h = tt
+
+pub part_fails : (fault : ReadFault) (read : Reader) (p : Parts) (go_on : Parts → Option Parts) → Fails fault (read 1 p.rest)
+    → Fails fault (part_then read go_on p)
+part_fails Syntax read p go_on h = ap (λ o. o >>= λ x. more_parts go_on (with_part p x)) h
+part_fails Memory read p go_on h = tt

@@ -118,10 +118,14 @@ with_part p x = parts_of (p.trees ++ x.tree ∷ []) (max p.depth x.depth) x.rest
 abbrev pub more_parts : (Parts → Option Parts) → Parts → Option Parts
 more_parts go_on p = by_comma go_on p (after_mark Comma p.rest)
 
+-- a part more, and what goes on behind it
+abbrev pub part_then : Reader → (Parts → Option Parts) → Parts → Option Parts
+part_then read go_on p = read 1 p.rest >>= λ x. more_parts go_on (with_part p x)
+
 -- at most so many parts more
 abbrev pub parts : Reader → ℕ → Parts → Option Parts
 parts read zero p = None
-parts read (suc k) p = read 1 p.rest >>= λ x. more_parts (parts read k) (with_part p x)
+parts read (suc k) p = part_then read (parts read k) p
 
 -- the concatenation of trees; one of none is that of a name of no letters, and no text spells it
 abbrev pub concat_behind : ExprTree → List ExprTree → ExprTree

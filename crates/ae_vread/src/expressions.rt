@@ -1,18 +1,20 @@
 // Reading an expression from the tokens, by the strengths of the operators.
 
-ghost use Rattle.std.specs.Prelude.{◌≡◌, ◌+◌, ◌≤◌, ◌<◌, [], length, option_map, Option, Some};
+ghost use Rattle.std.specs.Prelude.{◌≡◌, ◌+◌, ◌++◌, ◌≤◌, ◌<◌, [], ◌∷◌, length, max, option_map, IfSome, Option, Some};
 ghost use Rattle.ae_vread.specs.View.{expr_tree};
 ghost use Rattle.ae_vread.specs.ExprForms.{strength};
 ghost use Rattle.ae_vtoken.specs.Scan.{token_view, views};
 ghost use Rattle.ae_vread.specs.TokenTests.{after_mark, first_number};
 ghost use Rattle.ae_vread.specs.Reading as r;
-ghost use Rattle.ae_vread.specs.Reading.{found, expr_above, with_part, more_parts, expression, whole_expression, joined_at, chosen, chosen_of, unary_at, operand, named, selected, placed, indexed, parts, parts_of, braced, closed, prefixed, joined, infix_at, infix_of, sign_infix};
+ghost use Rattle.ae_vread.specs.Reading.{found, expr_above, with_part, more_parts, expression, whole_expression, joined_at, chosen, chosen_of, unary_at, operand, named, selected, placed, indexed, parts, parts_of, part_then, braced, closed, prefixed, joined, infix_at, infix_of, sign_infix};
 ghost use Rattle.ae_vread.specs.ReadView.{found_view, parts_view, Gives, Continues};
-ghost use Rattle.ae_vtoken.specs.declared.token.Sign.TheVariants.{OpenBracket, Colon};
+ghost use Rattle.ae_vtoken.specs.declared.token.Sign.TheVariants.{OpenBracket, Colon, Comma};
+ghost use Rattle.ae_vread.specs.ModuleTree.{name};
+ghost use Rattle.ae_vtoken.specs.Tokens.{Mark};
 
 use crate::module::{BinOp, Expr, UnOp};
 use crate::reading::{
-    Found, Parts, ReadFault, after_mark, deeper, first_number, want_mark, want_number,
+    Found, Parts, ReadFault, after_mark, deeper, first_name, first_number, want_mark, want_number,
 };
 use ae_vtoken::{Sign, Token};
 use std::alloc::Global;
@@ -268,14 +270,66 @@ fn parts<'t, 'a>(
         rest: tokens,
     };
     'part: for turn in 0..tokens.len() {
-        let part = expression(alloc, budget, 1, held.rest)?;
-        let (next, more) = with_part(held, part)?;
+        let (next, more) = one_part(alloc, budget, held)?;
         if !more {
             return Ok(next);
         }
         held = next;
     }
     Err(ReadFault::Syntax)
+}
+
+/// The next part, and whether a comma stands behind it. A name with a comma behind it is a part as it stands.
+#[cycle(expressions)]
+fn one_part<'t, 'a>(
+    alloc: Global,
+    budget: u32,
+    held: Parts<'t, 'a>,
+) -> Result<(Parts<'t, 'a>, bool), ReadFault>
+    ensures { (go_on : r.Parts → Option r.Parts) → Continues parts_view go_on (λ p. p) result (part_then (expression budget) go_on (parts_view held.entry)) }
+{
+    match lone_part(budget, held.rest) {
+        Some((word, rest)) => {
+            let next = with_word(alloc, held, word, rest)?;
+            Ok((next, true))
+        }
+        None => {
+            let part = expression(alloc, budget, 1, held.rest)?;
+            with_part(held, part)
+        }
+    }
+}
+
+/// A name with a comma behind it, and the tokens behind both.
+fn lone_part<'t, 'a>(budget: u32, tokens: &'t [Token<'a>]) -> Option<(&'a str, &'t [Token<'a>])>
+    ensures { IfSome result (λ x. expression budget 1 (views tokens.now) ≡ Some (found (name x.0.now) 1 (Mark Comma ∷ views x.1.now))) }
+{
+    if budget == 0 {
+        return None;
+    }
+    let (word, behind) = first_name(tokens)?;
+    let rest = after_mark(Sign::Comma, behind)?;
+    Some((word, rest))
+}
+
+/// A name more, in front of these tokens.
+fn with_word<'t, 'a>(
+    alloc: Global,
+    held: Parts<'t, 'a>,
+    word: &'a str,
+    rest: &'t [Token<'a>],
+) -> Result<Parts<'t, 'a>, ReadFault>
+    ensures { Gives parts_view result (Some (parts_of ((parts_view held.entry).trees ++ name word.now ∷ []) (max (parts_view held.entry).depth 1) (views rest.now))) }
+{
+    let Parts {
+        mut trees,
+        depth,
+        ..
+    } = held;
+    let word = String::from_str(alloc, word)?;
+    trees.push(Expr::Name(word))?;
+    let depth = depth.max(1);
+    Ok(Parts { trees, depth, rest })
 }
 
 /// One part more, and whether a comma stands behind it.

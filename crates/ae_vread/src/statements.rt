@@ -282,6 +282,10 @@ fn with_statement<'t, 'a>(
         depth: deep,
         rest,
     } = next;
+    // Most have one statement, and the least room that a push makes is for four.
+    if trees.is_empty() {
+        trees.reserve_exact(1)?;
+    }
     trees.push(Box::into_inner(tree))?;
     Ok(Body {
         trees,

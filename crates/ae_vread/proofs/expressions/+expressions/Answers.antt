@@ -3,7 +3,7 @@ use Rattle.std.proofs.lemmas.Result.{err_from_is_err_and}
 use Rattle.ae_vtoken.specs.Scan.{views}
 use Rattle.ae_vread.specs.Reading.{expression}
 use Rattle.ae_vread.specs.ReadView.{found_view, parts_view}
-use Rattle.ae_vread.proofs.Turns.{length_views, whole_step, next_turn, failed_turn, failed_join, last_turn, parts_fail, parts_end, parts_next}
+use Rattle.ae_vread.proofs.Turns.{length_views, whole_step, next_turn, failed_turn, failed_join, last_turn, parts_fail, parts_end, parts_next, lone_next, lone_fail, part_fails}
 use Rattle.ae_vread.proofs.expressions.+expressions.Goals as goal
 
 pub expression-returns : goal.expression-returns
@@ -45,18 +45,36 @@ parts-returns-in_err-next t c =
     let below : c.part.turn < length (views c.args.tokens.now) = omega (arith, c.part-test.true, length_views c.args.tokens.now) in
     rw (exit.1, exit.2)
     (parts_fail c.in_err-next.field-0.0 _ (expression c.args.budget) (length (views c.args.tokens.now)) c.part.turn (parts_view c.part.held)
-    (found_view c.in_ok-part.part) below c.part.invariant c.in_ok-part.ensures c.in_err-next.ensures)
+    below c.part.invariant c.in_err-next.ensures)
 
 -- the last part
 pub parts-returns-then-not-more : goal.parts-returns-then-not-more
 parts-returns-then-not-more t c =
     let below : c.part.turn < length (views c.args.tokens.now) = omega (arith, c.part-test.true, length_views c.args.tokens.now) in
     parts_end parts_view c.in_ok-next.next c.in_ok-next.more _ (expression c.args.budget) (length (views c.args.tokens.now)) c.part.turn
-    (parts_view c.part.held) (found_view c.in_ok-part.part) c.if-not-more.true below c.part.invariant c.in_ok-part.ensures c.in_ok-next.ensures
+    (parts_view c.part.held) c.if-not-more.true below c.part.invariant c.in_ok-next.ensures
 
 -- one part more
 pub parts-part-preserved : goal.parts-part-preserved
 parts-part-preserved t c =
     let below : c.part.turn < length (views c.args.tokens.now) = omega (arith, c.part-test.true, length_views c.args.tokens.now) in
     parts_next parts_view c.in_ok-next.next c.in_ok-next.more _ (expression c.args.budget) (length (views c.args.tokens.now)) c.part.turn
-    (parts_view c.part.held) (found_view c.in_ok-part.part) c.if-not-more.false below c.part.invariant c.in_ok-part.ensures c.in_ok-next.ensures
+    (parts_view c.part.held) c.if-not-more.false below c.part.invariant c.in_ok-next.ensures
+
+-- a name with a comma behind it
+pub one_part-returns-in_ok-next-in-Some : goal.one_part-returns-in_ok-next-in-Some
+one_part-returns-in_ok-next-in-Some t c go_on =
+    lone_next parts_view c.in_ok-next-in-Some.next (expression c.args.budget) (parts_view c.args.held) c.in-Some.word.now (views c.in-Some.rest.now) go_on
+    c.in-Some.ensures c.in_ok-next-in-Some.ensures
+
+pub one_part-returns-in_err-next-in-Some : goal.one_part-returns-in_err-next-in-Some
+one_part-returns-in_err-next-in-Some t c go_on =
+    let exit = err_from_is_err_and c.from_residual.result c.from_residual.ensures.1 in
+    rw (exit.1, exit.2) (lone_fail c.in_err-next-in-Some.field-0.0 _ _ c.in_err-next-in-Some.ensures)
+
+-- the part is none
+pub one_part-returns-in_err-part-in-None : goal.one_part-returns-in_err-part-in-None
+one_part-returns-in_err-part-in-None t c go_on =
+    let exit = err_from_is_err_and c.from_residual-in_err-part-in-None.result c.from_residual-in_err-part-in-None.ensures.1 in
+    rw (exit.1, exit.2)
+    (part_fails c.in_err-part-in-None.field-0.0 (expression c.args.budget) (parts_view c.args.held) go_on c.in_err-part-in-None.ensures)

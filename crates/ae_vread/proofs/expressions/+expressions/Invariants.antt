@@ -25,6 +25,9 @@ decreases-selected l = 8 * l.budget + 3
 abbrev pub decreases-parts : goal.decreases-parts
 decreases-parts l = 8 * l.budget + 2
 
+abbrev pub decreases-one_part : goal.decreases-one_part
+decreases-one_part l = 8 * l.budget + 1
+
 abbrev pub decreases-chosen : goal.decreases-chosen
 decreases-chosen l = 8 * l.budget + 1
 
