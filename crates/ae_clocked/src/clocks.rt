@@ -1,4 +1,4 @@
-// Counters of clocks, made once for each period and offset.
+// Counters of clocks, made once for each period and offset, and marks, made once for each period, offset and length.
 
 ghost use Rattle.std.specs.Prelude.{◌≡◌, ◌+◌, ◌<◌, ◌≤◌, ℕ, [], IfOk, OnErr, OnOk, Some, None, Ok, Err, length, ◌≢◌, if◌then◌else◌};
 ghost use Rattle.ae_netlist.specs.declared.cell.NetId.{NetId};
@@ -6,8 +6,9 @@ ghost use Rattle.ae_netlist.specs.Circuit.{IsNet};
 ghost use Rattle.ae_netlist.specs.Counts.{count_of, is_register};
 ghost use Rattle.ae_netlist.specs.Runs.{InEveryResetRun};
 ghost use Rattle.ae_clocked.specs.declared.clocks.Phase.{Phase};
+ghost use Rattle.ae_clocked.specs.declared.clocks.Mark.{Mark};
 ghost use Rattle.ae_clocked.specs.Signals.{Adds, IsFullAt, is_test};
-ghost use Rattle.ae_clocked.specs.Phases.{Belongs, HoldsPhases, IsCounter, IsMark, KeepsCounters, MarksPhases, kept_at, same_phase};
+ghost use Rattle.ae_clocked.specs.Phases.{Belongs, HoldsPhases, IsCounter, IsMark, IsPhaseMark, KeepsCounters, MarksPhases, kept_at, made_of, mark_at, same_mark, same_phase};
 
 use crate::counter::counter;
 use crate::marks::marked;
@@ -23,11 +24,20 @@ pub struct Phase {
     pub offset: u32,
 }
 
-/// The counters of one netlist.
+/// What a mark tells: the first `from` clocks of each period, where a period begins in the clock `offset`.
+#[derive(Clone, Copy, PartialEq, Eq, Hash)]
+pub struct Mark {
+    pub period: u32,
+    pub offset: u32,
+    pub from: u32,
+}
+
+/// The counters and marks of one netlist.
 #[derive(Drop)]
 pub struct Clocks {
     rst: NetId,
     counters: IndexMap<Phase, NetId>,
+    marks: IndexMap<Mark, NetId>,
 }
 
 impl Model for Clocks {
@@ -35,17 +45,18 @@ impl Model for Clocks {
 
     ghost Value = { Kept };
 
-    ghost view = { λ c. record { rst = c.rst.0; counters = c.counters.entries } };
+    ghost view = { λ c. record { rst = c.rst.0; counters = c.counters.entries; marks = c.marks.entries } };
 }
 
 impl Clocks {
-    /// No counters are kept yet; `rst` is the net of the reset. Takes no memory.
+    /// No counters and no marks are kept yet; `rst` is the net of the reset. Takes no memory.
     pub fn new(alloc: Global, rst: NetId) -> Clocks
-        ensures { result ≡ record { rst = rst.0; counters = [] } }
+        ensures { result ≡ record { rst = rst.0; counters = []; marks = [] } }
     {
         Clocks {
             rst,
             counters: IndexMap::new(alloc),
+            marks: IndexMap::new(alloc),
         }
     }
 
@@ -56,11 +67,11 @@ impl Clocks {
         self.rst
     }
 
-    /// How many counters are kept.
+    /// How many counters and marks are kept.
     pub fn made(&self) -> usize
-        ensures { result ≡ length self.now.counters }
+        ensures { result ≡ made_of self.now }
     {
-        self.counters.len()
+        self.counters.len() + self.marks.len()
     }
 
     fn find(&self, phase: Phase) -> Option<NetId>
@@ -72,11 +83,32 @@ impl Clocks {
     fn keep(&mut self, phase: Phase, net: NetId) -> Result<(), NetFault>
         ensures kept { OnOk result ((q : Phase) → kept_at self.new q ≡ (if same_phase phase q then Some net else kept_at self.old q)) }
         ensures rst { self.new.rst ≡ self.old.rst }
-        ensures more { OnOk result (kept_at self.old phase ≡ None → length self.new.counters ≡ length self.old.counters + 1) }
+        ensures marks { self.new.marks ≡ self.old.marks }
+        ensures more { OnOk result (kept_at self.old phase ≡ None → made_of self.new ≡ made_of self.old + 1) }
         ensures err { OnErr result (self.new ≡ self.old) }
         ensures fault { result ≢ Err NetFault.Full }
     {
         match self.counters.insert(phase, net) {
+            Ok(_) => Ok(()),
+            Err(_) => Err(NetFault::Memory),
+        }
+    }
+
+    fn find_mark(&self, mark: Mark) -> Option<NetId>
+        ensures { result ≡ mark_at self.now mark }
+    {
+        self.marks.get(&mark).copied()
+    }
+
+    fn keep_mark(&mut self, mark: Mark, net: NetId) -> Result<(), NetFault>
+        ensures kept { OnOk result ((q : Mark) → mark_at self.new q ≡ (if same_mark mark q then Some net else mark_at self.old q)) }
+        ensures rst { self.new.rst ≡ self.old.rst }
+        ensures counters { self.new.counters ≡ self.old.counters }
+        ensures more { OnOk result (mark_at self.old mark ≡ None → length self.new.marks ≡ length self.old.marks + 1) }
+        ensures err { OnErr result (self.new ≡ self.old) }
+        ensures fault { result ≢ Err NetFault.Full }
+    {
+        match self.marks.insert(mark, net) {
             Ok(_) => Ok(()),
             Err(_) => Err(NetFault::Memory),
         }
@@ -92,9 +124,10 @@ impl Clocks {
         requires high { period ≤ 4096 }
         ensures belongs { Belongs self.new nl.new.cells }
         ensures adds { Adds nl.old nl.new 12 0 }
-        ensures registers { OnOk result (count_of is_register nl.new.cells + length self.old.counters ≤ count_of is_register nl.old.cells + length self.new.counters) }
-        ensures tests { OnOk result (count_of is_test nl.new.cells + length self.old.counters ≤ count_of is_test nl.old.cells + length self.new.counters) }
-        ensures gained { OnOk result (length self.new.counters ≤ length self.old.counters + 1) }
+        ensures registers { OnOk result (count_of is_register nl.new.cells + made_of self.old ≤ count_of is_register nl.old.cells + made_of self.new) }
+        ensures tests { OnOk result (count_of is_test nl.new.cells + made_of self.old ≤ count_of is_test nl.old.cells + made_of self.new) }
+        ensures gained { OnOk result (made_of self.new ≤ made_of self.old + 1) }
+        ensures marks { self.new.marks ≡ self.old.marks }
         ensures full { IsFullAt result nl.new }
         ensures rst { self.new.rst ≡ self.old.rst }
         ensures again { (net : NetId) → kept_at self.old (record { period = period; offset = offset }) ≡ Some net → (result ≡ Ok net) × (nl.new ≡ nl.old) × (self.new ≡ self.old) }
@@ -113,30 +146,80 @@ impl Clocks {
         Ok(net)
     }
 
+    /// Makes a mark that is not kept yet, by a counter of its period that begins in the clock `at`, and keeps it.
+    fn make_mark(
+        &mut self,
+        nl: &mut Netlist,
+        counter: NetId,
+        at: u32,
+        mark: Mark,
+    ) -> Result<NetId, NetFault>
+        requires belongs { Belongs self.old nl.old.cells }
+        requires counter { IsCounter nl.old.cells self.old.rst (record { period = mark.period; offset = at }) counter.0 }
+        requires new { mark_at self.old mark ≡ None }
+        requires begins { at < mark.period }
+        requires low { mark.offset < mark.period }
+        requires high { mark.period ≤ 4096 }
+        requires within { mark.from ≤ mark.period }
+        ensures belongs { Belongs self.new nl.new.cells }
+        ensures counters { self.new.counters ≡ self.old.counters }
+        ensures rst { self.new.rst ≡ self.old.rst }
+        ensures adds { Adds nl.old nl.new 9 0 }
+        ensures registers { OnOk result (count_of is_register nl.new.cells ≤ count_of is_register nl.old.cells + 1) }
+        ensures tests { OnOk result (count_of is_test nl.new.cells ≤ count_of is_test nl.old.cells + 2) }
+        ensures gained { OnOk result (length self.new.marks ≡ length self.old.marks + 1) }
+        ensures full { IsFullAt result nl.new }
+        ensures mark { IfOk result (λ y. IsPhaseMark nl.new.cells self.old.rst mark y.0) }
+    {
+        let y = marked(
+            nl,
+            self.rst,
+            counter,
+            mark.period,
+            at,
+            mark.offset,
+            mark.from,
+        )?;
+        self.keep_mark(mark, y)?;
+        Ok(y)
+    }
+
     /// The bit that is 1 in those clocks after reset in which the phase of this counter is below `from`, and else 0: what a
-    /// comparison of the counter would say, but kept in a register, where that is smaller. It takes at most 9 cells. `Full`
-    /// comes only where the netlist has `limit` cells as the call ends; after a refusal it may hold further cells.
+    /// comparison of the counter would say, but kept in a register, where that is smaller. A mark of these clocks that was
+    /// made before is answered again, and nothing is added; a new one takes at most 9 cells. `Full` comes only where the
+    /// netlist has `limit` cells as the call ends; after a refusal it may hold further cells.
     pub fn mark(
-        &self,
+        &mut self,
         nl: &mut Netlist,
         phase: NetId,
         period: u32,
         offset: u32,
         from: u32,
     ) -> Result<NetId, NetFault>
-        requires rst { IsNet nl.old.cells self.now.rst 1 }
-        requires counter { IsCounter nl.old.cells self.now.rst (record { period = period; offset = offset }) phase.0 }
+        requires belongs { Belongs self.old nl.old.cells }
+        requires counter { IsCounter nl.old.cells self.old.rst (record { period = period; offset = offset }) phase.0 }
         requires low { offset < period }
         requires high { period ≤ 4096 }
         requires within { from ≤ period }
+        ensures belongs { Belongs self.new nl.new.cells }
+        ensures keeps { KeepsCounters self.old self.new }
         ensures adds { Adds nl.old nl.new 9 0 }
-        ensures registers { count_of is_register nl.new.cells ≤ count_of is_register nl.old.cells + 1 }
-        ensures tests { count_of is_test nl.new.cells ≤ count_of is_test nl.old.cells + 2 }
+        ensures registers { OnOk result (count_of is_register nl.new.cells + made_of self.old ≤ count_of is_register nl.old.cells + made_of self.new) }
+        ensures tests { OnOk result (count_of is_test nl.new.cells + made_of self.old + length self.old.marks ≤ count_of is_test nl.old.cells + made_of self.new + length self.new.marks) }
+        ensures gained { OnOk result (length self.new.marks ≤ length self.old.marks + 1) }
         ensures full { IsFullAt result nl.new }
         ensures net { IfOk result (λ y. IsNet nl.new.cells y.0 1) }
-        ensures marks { IfOk result (λ y. InEveryResetRun nl.new.cells self.now.rst (λ run start. IsMark run start y.0 phase.0 from)) }
+        ensures marks { IfOk result (λ y. InEveryResetRun nl.new.cells self.old.rst (λ run start. IsMark run start y.0 phase.0 from)) }
     {
-        let y = marked(nl, self.rst, phase, period, offset, offset, from)?;
+        let mark = Mark {
+            period,
+            offset,
+            from,
+        };
+        if let Some(net) = self.find_mark(mark) {
+            return Ok(net);
+        }
+        let y = self.make_mark(nl, phase, offset, mark)?;
         Ok(y)
     }
 
@@ -167,7 +250,8 @@ impl Clocks {
 
     /// The bit that is 1 in the first `from` clocks of each period from the clock `offset` after reset on, and else 0. It is
     /// told by a counter of that period that was made lately, or by one that is made now and begins in the clock `wanted`:
-    /// where a later stage will ask for a counter, the two can share it. It takes at most 21 cells. `Full` comes only where
+    /// where a later stage will ask for a counter, the two can share it. A mark of these clocks that was made before is
+    /// answered again, and nothing is added; a new one takes at most 21 cells. `Full` comes only where
     /// the netlist has `limit` cells as the call ends; after a refusal it may hold further cells.
     pub fn lead(
         &mut self,
@@ -185,13 +269,23 @@ impl Clocks {
         ensures belongs { Belongs self.new nl.new.cells }
         ensures keeps { KeepsCounters self.old self.new }
         ensures adds { Adds nl.old nl.new 21 0 }
+        ensures registers { OnOk result (count_of is_register nl.new.cells + made_of self.old ≤ count_of is_register nl.old.cells + made_of self.new) }
+        ensures tests { OnOk result (count_of is_test nl.new.cells + made_of self.old + length self.old.marks ≤ count_of is_test nl.old.cells + made_of self.new + length self.new.marks) }
         ensures full { IsFullAt result nl.new }
         ensures net { IfOk result (λ y. IsNet nl.new.cells y.0 1) }
         ensures marks { IfOk result (λ y. InEveryResetRun nl.new.cells self.old.rst (λ run start. MarksPhases run start y.0 period offset from)) }
     {
+        let mark = Mark {
+            period,
+            offset,
+            from,
+        };
+        if let Some(net) = self.find_mark(mark) {
+            return Ok(net);
+        }
         let at = self.offset_for(period, wanted);
         let counter = self.phase(nl, period, at)?;
-        let y = marked(nl, self.rst, counter, period, at, offset, from)?;
+        let y = self.make_mark(nl, counter, at, mark)?;
         Ok(y)
     }
 }

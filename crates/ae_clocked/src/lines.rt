@@ -4,7 +4,7 @@ ghost use Rattle.std.specs.Prelude.{◌≡◌, ◌<◌, ◌≤◌, ◌+◌, ◌-
 ghost use Rattle.ae_netlist.specs.Circuit.{IsNet, width_of};
 ghost use Rattle.ae_netlist.specs.Counts.{AreWhole, count_of, is_memory, is_mul, is_register};
 ghost use Rattle.ae_clocked.specs.Signals.{Adds, Grows, IsFullAt, is_test};
-ghost use Rattle.ae_clocked.specs.Phases.{Belongs, KeepsCounters};
+ghost use Rattle.ae_clocked.specs.Phases.{Belongs, KeepsCounters, made_of};
 ghost use Rattle.ae_clocked.specs.Delays.{AreDelays, AreTaps, IsTap, greatest_of, line_cells};
 ghost use Rattle.ae_clocked.specs.Rings.{AddsMemories, rings};
 ghost use Rattle.ae_clocked.specs.Rows.{AreLinks};
@@ -148,9 +148,9 @@ fn far_row(
     ensures belongs { Belongs clocks.new nl.new.cells }
     ensures keeps { KeepsCounters clocks.old clocks.new }
     ensures adds { AddsMemories nl.old nl.new (18 * rings reach) (rings reach) }
-    ensures registers { OnOk result (count_of is_register nl.new.cells + length clocks.old.counters ≤ count_of is_register nl.old.cells + length clocks.new.counters + min ((reach + 4095) / 4096 - 1) spare) }
-    ensures tests { OnOk result (count_of is_test nl.new.cells + length clocks.old.counters ≤ count_of is_test nl.old.cells + length clocks.new.counters) }
-    ensures gained { OnOk result (length clocks.new.counters ≤ length clocks.old.counters + 2) }
+    ensures registers { OnOk result (count_of is_register nl.new.cells + made_of clocks.old ≤ count_of is_register nl.old.cells + made_of clocks.new + min ((reach + 4095) / 4096 - 1) spare) }
+    ensures tests { OnOk result (count_of is_test nl.new.cells + made_of clocks.old ≤ count_of is_test nl.old.cells + made_of clocks.new) }
+    ensures gained { OnOk result (made_of clocks.new ≤ made_of clocks.old + 2) }
     ensures full { IsFullAt result nl.new }
     ensures long { IfOk result (λ links. length links.items ≡ rings reach) }
     ensures links { IfOk result (λ links. AreLinks nl.new.cells clocks.old.rst width x.0 reach links.items) }
@@ -191,7 +191,7 @@ fn tap_at(
 /// The words of `x`, as many clocks later as each tap says: from clock d after reset on, a tap of d has the word that `x`
 /// had d clocks before. Of the greatest tap A and the number n of taps above 0 it takes at most `8 * A + 4 * n` cells, and
 /// a memory for each 4,096 clocks of A where A is 8 or more. It makes at most two counters, and beside these at most seven
-/// registers and no comparison.
+/// registers, and no more than A, and no comparison.
 pub fn ring_line(
     alloc: Global,
     nl: &mut Netlist,
@@ -208,9 +208,9 @@ pub fn ring_line(
     ensures muls { count_of is_mul nl.new.cells ≡ count_of is_mul nl.old.cells }
     ensures memories { count_of is_memory nl.new.cells ≤ count_of is_memory nl.old.cells + rings (greatest_of taps.now) }
     ensures whole { OnOk result (AreWhole nl.old.cells → AreWhole nl.new.cells) }
-    ensures registers { OnOk result (count_of is_register nl.new.cells + length clocks.old.counters ≤ count_of is_register nl.old.cells + length clocks.new.counters + 7) }
-    ensures tests { OnOk result (count_of is_test nl.new.cells + length clocks.old.counters ≤ count_of is_test nl.old.cells + length clocks.new.counters) }
-    ensures gained { OnOk result (length clocks.new.counters ≤ length clocks.old.counters + 2) }
+    ensures registers { OnOk result (count_of is_register nl.new.cells + made_of clocks.old ≤ count_of is_register nl.old.cells + made_of clocks.new + min 7 (greatest_of taps.now)) }
+    ensures tests { OnOk result (count_of is_test nl.new.cells + made_of clocks.old ≤ count_of is_test nl.old.cells + made_of clocks.new) }
+    ensures gained { OnOk result (made_of clocks.new ≤ made_of clocks.old + 2) }
     ensures full { IsFullAt result nl.new }
     ensures keeps { KeepsCounters clocks.old clocks.new }
     ensures taps { IfOk result (λ nets. AreTaps nl.new.cells clocks.old.rst (width_of nl.old.cells x.0) x.0 taps.now nets) }
@@ -219,7 +219,7 @@ pub fn ring_line(
     let most = greatest(taps);
     let near = nearest(taps);
     let nets = chain(alloc, nl, x, width, near)?;
-    let mut spare = 7 - near;
+    let mut spare = most.min(7) - near;
     let links = far_row(alloc, nl, clocks, x, width, most, spare)?;
     spare = spare.saturating_sub(most.saturating_sub(1) / 4096);
     let mut tapped = Vec::new(alloc);

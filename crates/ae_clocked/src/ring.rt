@@ -7,7 +7,7 @@ ghost use Rattle.ae_netlist.specs.Counts.{count_of, is_register};
 ghost use Rattle.ae_netlist.specs.Runs.{InEveryRunFrom};
 ghost use Rattle.ae_clocked.specs.Signals.{Adds, IsFullAt, is_test};
 ghost use Rattle.ae_clocked.specs.Delays.{IsTap};
-ghost use Rattle.ae_clocked.specs.Phases.{Belongs, KeepsCounters, kept_at};
+ghost use Rattle.ae_clocked.specs.Phases.{Belongs, KeepsCounters, kept_at, made_of};
 ghost use Rattle.ae_clocked.specs.Rings.{AddsMemories, HoldsRing, IsLook, IsRing, IsStore};
 
 use crate::clocks::Clocks;
@@ -163,9 +163,9 @@ pub fn make_ring(
     ensures belongs { Belongs clocks.new nl.new.cells }
     ensures keeps { KeepsCounters clocks.old clocks.new }
     ensures adds { AddsMemories nl.old nl.new 14 1 }
-    ensures registers { OnOk result (count_of is_register nl.new.cells + length clocks.old.counters ≤ count_of is_register nl.old.cells + length clocks.new.counters) }
-    ensures tests { OnOk result (count_of is_test nl.new.cells + length clocks.old.counters ≤ count_of is_test nl.old.cells + length clocks.new.counters) }
-    ensures gained { OnOk result (length clocks.new.counters ≤ length clocks.old.counters + 1) }
+    ensures registers { OnOk result (count_of is_register nl.new.cells + made_of clocks.old ≤ count_of is_register nl.old.cells + made_of clocks.new) }
+    ensures tests { OnOk result (count_of is_test nl.new.cells + made_of clocks.old ≤ count_of is_test nl.old.cells + made_of clocks.new) }
+    ensures gained { OnOk result (made_of clocks.new ≤ made_of clocks.old + 1) }
     ensures far { IfOk result (λ ring. 4096 ≤ reach → kept_at clocks.new (record { period = 4096; offset = 0 }) ≡ Some ring.counter) }
     ensures again { OnOk result ((net : Net) → 4096 ≤ reach → kept_at clocks.old (record { period = 4096; offset = 0 }) ≡ Some net → clocks.new ≡ clocks.old) }
     ensures full { IsFullAt result nl.new }

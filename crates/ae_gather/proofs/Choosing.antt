@@ -224,3 +224,40 @@ pub whole_column : (cells : List SizedCell) (rst w phase limit : ℕ) (ins : Lis
     → IsColumn cells rst w phase limit ins (λ p. choice_in p (take i steps)) y → IsColumn cells rst w phase limit ins (λ p. choice_in p steps) y
 whole_column cells rst w phase limit ins steps i y l h =
     column_same cells rst w phase limit ins (λ p. choice_in p (take i steps)) (λ p. choice_in p steps) y (λ p. ap (choice_in p) (sym (take_all i steps l))) h
+
+-- ---- by a bit that marks the phases before a step
+
+pub columns_by : (a b d : List SizedCell) (rst w : ℕ) (ins : List NetId) (step : Step) (before early s : NetId) (fy : ℕ) (r : Result NetId NetFault)
+    → Extends a d → Extends b d → IsSource b rst w ins step.take s.0 → IfOk r (λ y. IsNet d y.0 w)
+    → IfOk r (λ y. InEveryRunFrom fy d (λ run. IsResult run y.0 Mux w (early ∷ before ∷ s ∷ [])))
+    → IfOk r (λ y. (phase limit : ℕ) (choice : ℕ → Choice) → InEveryResetRun a rst (λ run start. IsMarkTo limit run start early.0 phase step.from)
+    → IsColumn a rst w phase limit ins choice before.0 → IsColumn d rst w phase limit ins (λ p. later p (choice p) step) y.0)
+columns_by a b d rst w ins step before early s fy (Ok y) ga gb hs net cy = λ phase limit choice marks hc.
+    column_more a b d rst w phase limit ins choice step before early s y fy ga gb hc hs net
+    (mark_grows a d rst limit early.0 phase step.from ga marks) cy
+columns_by a b d rst w ins step before early s fy (Err e) ga gb hs net cy = net
+
+pub columns_then : (a b d : List SizedCell) (rst w phase limit : ℕ) (ins : List NetId) (step : Step) (before early : NetId) (r : Result NetId NetFault)
+    → Extends a b → InEveryResetRun b rst (λ run start. IsMarkTo limit run start early.0 phase step.from)
+    → IfOk r (λ y. (phase limit : ℕ) (choice : ℕ → Choice) → InEveryResetRun b rst (λ run start. IsMarkTo limit run start early.0 phase step.from)
+    → IsColumn b rst w phase limit ins choice before.0 → IsColumn d rst w phase limit ins (λ p. later p (choice p) step) y.0)
+    → IfOk r (λ y. (choice : ℕ → Choice) → IsColumn a rst w phase limit ins choice before.0
+    → IsColumn d rst w phase limit ins (λ p. later p (choice p) step) y.0)
+columns_then a b d rst w phase limit ins step before early (Ok y) g marks h = λ choice hc.
+    h phase limit choice marks (column_grows a b rst w phase limit ins choice before.0 g hc)
+columns_then a b d rst w phase limit ins step before early (Err e) g marks h = h
+
+-- two steps are one of each kind
+pub columns_two : (a b d : List SizedCell) (rst w phase limit : ℕ) (ins : List NetId) (steps : List Step) (one two : Step) (before early : NetId)
+    (r : Result NetId NetFault) → length steps ≡ 2 → slice_get steps 0 ≡ Some one → slice_get steps 1 ≡ Some two → Extends a b
+    → IsSource a rst w ins one.take before.0 → InEveryResetRun b rst (λ run start. IsMarkTo limit run start early.0 phase two.from)
+    → IfOk r (λ y. (phase limit : ℕ) (choice : ℕ → Choice) → InEveryResetRun b rst (λ run start. IsMarkTo limit run start early.0 phase two.from)
+    → IsColumn b rst w phase limit ins choice before.0 → IsColumn d rst w phase limit ins (λ p. later p (choice p) two) y.0)
+    → IfOk r (λ y. IsColumn d rst w phase limit ins (λ p. choice_in p steps) y.0)
+columns_two a b d rst w phase limit ins steps one two before early (Ok y) count first second g hs marks h =
+    let begun = column_grows a b rst w phase limit ins (λ p. choice_in p (take 1 steps)) before.0 g
+    (first_column a rst w phase limit ins steps one before.0 first hs) in
+    whole_column d rst w phase limit ins steps 2 y.0 (omega (arith, count))
+    (next_column d rst w phase limit ins steps 1 two y.0 (omega arith) (omega (arith, count)) second
+    (h phase limit (λ p. choice_in p (take 1 steps)) marks begun))
+columns_two a b d rst w phase limit ins steps one two before early (Err e) count first second g hs marks h = h

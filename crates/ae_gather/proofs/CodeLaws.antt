@@ -5,12 +5,13 @@ use Rattle.std.proofs.lemmas.List.Sums.{sum_by-cons}
 use Rattle.std.proofs.lemmas.Option.{slice_get-get_or}
 use Rattle.ae_sttype.specs.StTree.{StTree, lanes, time, element_atom, element_words}
 use Rattle.ae_sttype.specs.Size.{IsInSize}
-use Rattle.ae_sttype.specs.Moves.{delay_of, runs_of, columns_of, first_column}
+use Rattle.ae_sttype.specs.Moves.{delay_of, held_count, runs_of, steps_of, columns_of, first_column}
 use Rattle.ae_sttype.proofs.Bounds.{lanes_pos}
 use Rattle.ae_word.specs.AtomTree.{AtomTree, WordKind, atom_kinds}
 use Rattle.ae_word.proofs.Sizes.{length-atom_kinds}
 use Rattle.ae_netlist.specs.declared.cell.NetId.{NetId}
 use Rattle.ae_netlist.specs.declared.cell.SizedCell.{SizedCell}
+use Rattle.ae_netlist.specs.Circuit.{Circuit}
 use Rattle.ae_netlist.proofs.Gets.{get_push_cases}
 use Rattle.ae_ops.specs.Blocks.{stream_of, AreBundles, KeepsLaw}
 use Rattle.ae_gather.specs.Plans.{AreUsed, AreWithin}
@@ -18,10 +19,11 @@ use Rattle.ae_gather.specs.Laws.{MakesTrips}
 use Rattle.ae_gather.specs.Joins.{AreJoined}
 use Rattle.ae_gather.proofs.GatherLaw.{bundles_long, firsts_same, gather_law}
 use Rattle.ae_moves.specs.declared.trip.Trip.{Trip}
-use Rattle.ae_moves.specs.Rings.{mems_of}
+use Rattle.ae_moves.specs.Rings.{mems_of, registers_of}
 use Rattle.ae_moves.specs.Trees.{trip_tree}
 use Rattle.ae_moves.specs.Origins.{AllInSize, IsMove, Move, move_latency, move_trips, width_at}
-use Rattle.ae_gather.specs.Gathers.{AreWidths, gather_part}
+use Rattle.ae_gather.specs.Counts.{Counted}
+use Rattle.ae_gather.specs.Gathers.{AreWidths, gather_part, move_registers, move_tests}
 use Rattle.ae_moves.proofs.Words.{columns_small, words_pos}
 use Rattle.ae_gather.proofs.Typed.{used, within}
 use Rattle.ae_sttype.proofs.Places.{row_below as in_row}
@@ -93,6 +95,12 @@ cells_as m trips new old d a b ed ea eb e h = rw (e, ed, ea, eb) at h
 pub mems_as : (m : Move) (trips : List Trip) (new old p d a : ℕ) → p ≡ time m.out → d ≡ move_latency m → a ≡ sum_by columns_of m.ins
     → map trip_tree trips ≡ move_trips m → new ≤ old + mems_of p d a (map trip_tree trips) → new ≤ old + (gather_part m).most_memories
 mems_as m trips new old p d a ep ed ea e h = rw (e, ep, ed, ea) at h
+
+pub counted_as : (m : Move) (trips : List Trip) (old new : Circuit) (before after p d a b : ℕ) → p ≡ time m.out → d ≡ move_latency m
+    → a ≡ sum_by columns_of m.ins → b ≡ columns_of m.out → map trip_tree trips ≡ move_trips m
+    → Counted old new before after (registers_of p d a (map trip_tree trips)) (steps_of p d b (map trip_tree trips) + held_count p d a (map trip_tree trips))
+    → Counted old new before after (move_registers m) (move_tests m)
+counted_as m trips old new before after p d a b ep ed ea eb e h = rw (e, ep, ed, ea, eb) at h
 
 pub law_as : (old cells : List SizedCell) (rst arrival : ℕ) (m : Move) (bundles : List (List NetId)) (nets : List NetId) (firsts : List ℕ) (trips : List Trip)
     (out : List NetId) (p d b : ℕ) → p ≡ time m.out → d ≡ move_latency m → length out ≡ b → b ≡ columns_of m.out

@@ -21,3 +21,5 @@ pub mod Rereads
 pub mod Asked
 pub mod Showing
 pub mod Ringing
+pub mod Counted
+pub mod Bounded

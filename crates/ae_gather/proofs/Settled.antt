@@ -166,7 +166,7 @@ behind_age : (d c q : ℕ) (held : List (Option ℕ)) (source : Source) → IsIn
 behind_age d c q held (Place k p) inside l = behind_by (is_kept held p && nat_lt k (c + d)) d c (length held) k p q inside l
 behind_age d c q held (Fixed w) inside l = omega arith
 
-greatest_below : (f : TripTree → ℕ) (m a : ℕ) (ts : List TripTree) → a ≤ m → ((n : ℕ) (t : TripTree) → slice_get ts n ≡ Some t → f t ≤ m)
+pub greatest_below : (f : TripTree → ℕ) (m a : ℕ) (ts : List TripTree) → a ≤ m → ((n : ℕ) (t : TripTree) → slice_get ts n ≡ Some t → f t ≤ m)
     → fold (λ most (t : TripTree). max most (f t)) a ts ≤ m
 greatest_below f m a [] l h = l
 greatest_below f m a (t ∷ ts) l h = let here : f t ≤ m = h 0 t refl in greatest_below f m (max a (f t)) ts (omega arith) (λ n u g. h (suc n) u g)
@@ -181,22 +181,22 @@ column_below d q m held trips h =
     rw (← o.2) (rw (← p.2) (h n p.0 p.1)))
 
 -- the trips stand in the columns
-abbrev AllIn : List (Option ℕ) → List Trip → Type 0
+abbrev pub AllIn : List (Option ℕ) → List Trip → Type 0
 AllIn held trips = (n : ℕ) (trip : Trip) → slice_get trips n ≡ Some trip → IsIn (length held) trip.source
 
-column_settled : (d q : ℕ) (held : List (Option ℕ)) (trips : List Trip) → AllIn held trips → q < length held
+pub column_settled : (d q : ℕ) (held : List (Option ℕ)) (trips : List Trip) → AllIn held trips → q < length held
     → column_delay d q (map trip_tree (map (settled d held) trips)) ≤ column_delay d q (map trip_tree trips)
 column_settled d q held trips inside l = column_below d q (column_delay d q (map trip_tree trips)) held trips (λ n trip f.
     let own = fold_ge (λ (t : TripTree). age_from d q t.clock t.source) 0 (map trip_tree trips) n (trip_tree trip) (get_mapped trip_tree trips n trip f) in
     omega (arith, own, settled_age d trip.clock q held trip.source (inside n trip f) l))
 
-column_kept : (d q : ℕ) (held : List (Option ℕ)) (trips : List Trip) → AllIn held trips → q < length held → is_kept held q ≡ true
+pub column_kept : (d q : ℕ) (held : List (Option ℕ)) (trips : List Trip) → AllIn held trips → q < length held → is_kept held q ≡ true
     → column_delay d q (map trip_tree (map (settled d held) trips)) ≡ 0
 column_kept d q held trips inside l on =
     let h : column_delay d q (map trip_tree (map (settled d held) trips)) ≤ 0 = column_below d q 0 held trips
     (λ n trip f. kept_age d trip.clock q held trip.source (inside n trip f) l on) in omega arith
 
-column_behind : (d q : ℕ) (held : List (Option ℕ)) (trips : List Trip) → AllIn held trips → length held ≤ q
+pub column_behind : (d q : ℕ) (held : List (Option ℕ)) (trips : List Trip) → AllIn held trips → length held ≤ q
     → column_delay d q (map trip_tree (map (settled d held) trips)) ≡ 0
 column_behind d q held trips inside l =
     let h : column_delay d q (map trip_tree (map (settled d held) trips)) ≤ 0 = column_below d q 0 held trips
@@ -204,14 +204,14 @@ column_behind d q held trips inside l =
 
 -- ---- sums
 
-tail_none : (f : ℕ → ℕ) (n m : ℕ) → ((i : ℕ) → n ≤ i → f i ≡ 0) → sum_by f (range_with_len 0 (n + m)) ≡ sum_by f (range_with_len 0 n)
+pub tail_none : (f : ℕ → ℕ) (n m : ℕ) → ((i : ℕ) → n ≤ i → f i ≡ 0) → sum_by f (range_with_len 0 (n + m)) ≡ sum_by f (range_with_len 0 n)
 tail_none f n zero h = let e : n + 0 ≡ n = omega arith in rw e refl
 tail_none f n (suc m) h =
     let e : n + suc m ≡ n + m + 1 = omega arith in
     let last : f (n + m) ≡ 0 = h (n + m) (omega arith) in
     rw e (omega (arith, sum_more f (n + m), last, tail_none f n m h))
 
-two_sums : (f g h : ℕ → ℕ) (n : ℕ) → ((q : ℕ) → q < n → f q + h q ≤ g q)
+pub two_sums : (f g h : ℕ → ℕ) (n : ℕ) → ((q : ℕ) → q < n → f q + h q ≤ g q)
     → sum_by f (range_with_len 0 n) + sum_by h (range_with_len 0 n) ≤ sum_by g (range_with_len 0 n)
 two_sums f g h zero each = omega arith
 two_sums f g h (suc n) each =
@@ -223,7 +223,7 @@ two_sums f g h (suc n) each =
     subst (λ (k : ℕ). sum_by f (range_with_len 0 k) + sum_by h (range_with_len 0 k) ≤ sum_by g (range_with_len 0 k)) (sym e) more
 
 -- what is held, and what is not
-abbrev AreHeldBy : (period d : ℕ) → List (Option ℕ) → List Trip → Type 0
+abbrev pub AreHeldBy : (period d : ℕ) → List (Option ℕ) → List Trip → Type 0
 AreHeldBy period d held trips = AreHeld period d (length held) (map trip_tree trips) held
 
 clock_late : (a : Bool) (m k : ℕ) (h : Option ℕ) → h ≡ cond (a && nat_lt 1 m) (Some k) None → is_some h ≡ true → (a ≡ true) × (2 ≤ m)
@@ -305,7 +305,7 @@ mems_all period d ins held trips moved lines is long inside h count ages =
 
 -- ---- runs
 
-abbrev held_choice : List (Option ℕ) → ChoiceTree → ChoiceTree
+abbrev pub held_choice : List (Option ℕ) → ChoiceTree → ChoiceTree
 held_choice held (delayed q a) = cond (is_kept held q && nat_lt 0 a) (delayed (length held + q) 0) (delayed q a)
 held_choice held (always w) = always w
 
@@ -327,7 +327,7 @@ choice_settled d c held (Place k q) =
     ∙ ap (λ b. cond (is_kept held q && b) (delayed (length held + q) 0) (delayed q (c + d - k))) (late_same k (c + d))
 choice_settled d c held (Fixed w) = refl
 
-choices_settled : (d q : ℕ) (held : List (Option ℕ)) (trips : List Trip)
+pub choices_settled : (d q : ℕ) (held : List (Option ℕ)) (trips : List Trip)
     → choices_of d q (map trip_tree (map (settled d held) trips)) ≡ map (held_choice held) (choices_of d q (map trip_tree trips))
 choices_settled d q held [] = refl
 choices_settled d q held (t ∷ trips) = by (nat_eq t.column q) (choices_settled d q held trips) refl

@@ -3,10 +3,10 @@ use Rattle.std.specs.Prelude.{◌≡◌, ℕ, ◌+◌, ◌*◌, ◌%◌, ◌≤�
 use Rattle.ae_word.specs.AtomTree.{unsigned_word}
 use Rattle.ae_sttype.specs.declared.st_type.StType.{StType}
 use Rattle.ae_sttype.specs.StTree.{StTree, atom, sseq, st_tree, time, element_words}
-use Rattle.ae_sttype.specs.Moves.{OriginTree, from_input, fixed, columns_of, delay_of, runs_of}
+use Rattle.ae_sttype.specs.Moves.{OriginTree, from_input, fixed, columns_of, delay_of, held_count, runs_of, steps_of}
 use Rattle.ae_ops.specs.Blocks.{Part, stream_of}
 use Rattle.ae_moves.specs.Origins.{IsMove, Move, move_trips, move_latency, width_at}
-use Rattle.ae_moves.specs.Rings.{mems_of}
+use Rattle.ae_moves.specs.Rings.{mems_of, registers_of}
 
 -- what contracts see of a gather
 pub record Layouts : Type 0 where
@@ -41,6 +41,16 @@ gather_part m = record {
   products = 0;
   most_memories = mems_of (time m.out) (move_latency m) (sum_by columns_of m.ins) (move_trips m);
 }
+
+-- the most registers of a move, beside one for each counter and mark that it makes: one for each held column of the inputs, and 7 for each other that is used
+abbrev pub move_registers : Move → ℕ
+move_registers m = registers_of (time m.out) (move_latency m) (sum_by columns_of m.ins) (move_trips m)
+
+-- the most comparisons, beside one for each counter and mark: one for each step of the columns of the output, and for each held column of the inputs
+abbrev pub move_tests : Move → ℕ
+move_tests m =
+    steps_of (time m.out) (move_latency m) (columns_of m.out) (move_trips m) + held_count (time m.out)
+    (move_latency m) (sum_by columns_of m.ins) (move_trips m)
 
 -- the widths of the columns of a layout
 abbrev pub AreWidths : StTree → List ℕ → Type 0

@@ -8,3 +8,4 @@ pub mod Readings
 pub mod Laws
 pub mod Gathers
 pub mod Joins
+pub mod Counts

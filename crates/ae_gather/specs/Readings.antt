@@ -4,6 +4,7 @@ use Rattle.ae_clocked.specs.Delays.{line_cells}
 use Rattle.ae_moves.specs.declared.trip.Trip.{Trip}
 use Rattle.ae_gather.specs.declared.reading.Reading.{Reading}
 use Rattle.ae_gather.specs.declared.early.Schedule.{Schedule}
+use Rattle.ae_gather.specs.Counts.{IsSpare}
 use Rattle.ae_gather.specs.Early.{AreInTime, hastened}
 use Rattle.ae_gather.specs.Plans.{IsPlan, line_mems, steps_cells}
 use Rattle.ae_gather.specs.Reads.{ArePlaced, read_trip, ring_count}
@@ -27,10 +28,11 @@ pub record IsReading (d ins outs : ℕ) (trips : List Trip) (r : Reading) : Type
   pub shown : length r.plan.columns.items ≡ outs
   pub shows : IsPlan d r.places.items r.plan.lines.items r.plan.columns.items
 
--- it takes no more cells and no more memories than the schedule without rings
-pub record IsNoDearer (outs : ℕ) (r : Reading) (s : Schedule) : Type 0 where
+-- it takes no more cells and no more memories than the schedule without rings, and no more than its registers and comparisons may be
+pub record IsNoDearer (outs spare : ℕ) (r : Reading) (s : Schedule) : Type 0 where
   pub cells : 12 + 14 * ring_count r.reads.rings.items + 6 * outs + sum_by steps_cells r.plan.columns.items + sum_by
       line_cells r.schedule.plan.lines.items + sum_by steps_cells r.schedule.plan.columns.items
       ≤ sum_by line_cells s.plan.lines.items + sum_by steps_cells s.plan.columns.items
   pub memories : ring_count r.reads.rings.items + sum_by line_mems r.schedule.plan.lines.items ≤ sum_by line_mems
       s.plan.lines.items
+  pub counts : IsSpare spare r s

@@ -1,14 +1,16 @@
 // One output column: a choice by phases.
 
-ghost use Rattle.std.specs.Prelude.{◌≡◌, ◌<◌, ◌≤◌, ◌+◌, ◌^◌, ◌∷◌, [], ℕ, List, Some, length, slice_get, IfOk};
+ghost use Rattle.std.specs.Prelude.{◌≡◌, ◌<◌, ◌≤◌, ◌+◌, ◌-◌, ◌^◌, ◌∷◌, [], ℕ, List, Some, length, slice_get, IfOk, OnOk, if◌then◌else◌};
 ghost use Rattle.ae_netlist.specs.declared.cell.NetId.{NetId as Net};
 ghost use Rattle.ae_netlist.specs.Circuit.{IsNet};
 ghost use Rattle.ae_netlist.specs.Runs.{InEveryResetRun, InEveryRunFrom};
 ghost use Rattle.ae_clocked.specs.Signals.{IsResult};
 ghost use Rattle.ae_clocked.specs.Signals.{Adds, IsFullAt};
+ghost use Rattle.ae_clocked.specs.Phases.{Belongs, KeepsCounters, made_of};
 ghost use Rattle.ae_moves.specs.declared.trip.Choice.{Choice as Taken};
 ghost use Rattle.ae_gather.specs.declared.trips.Step.{Step as Part};
 ghost use Rattle.ae_gather.specs.Early.{IsEarlyColumn, IsMade, first_phase};
+ghost use Rattle.ae_gather.specs.Counts.{Counted, steps_tests};
 ghost use Rattle.ae_gather.specs.Plans.{choice_in, later, steps_cells};
 ghost use Rattle.ae_gather.specs.Columns.{AreReady, IsMarkTo, IsColumn, IsPhaseNet, IsReady, IsSource};
 
@@ -31,6 +33,7 @@ fn source(
     requires high { width ≤ 64 }
     requires ready { IsReady nl.old.cells clocks.now.rst width ins.now lines.now step.now.tap step.now.take }
     ensures adds { Adds nl.old nl.new 1 0 }
+    ensures counted { Counted nl.old nl.new 0 0 0 0 }
     ensures full { IsFullAt result nl.new }
     ensures source { IfOk result (λ y. IsSource nl.new.cells clocks.now.rst width ins.now step.now.take y.0) }
 {
@@ -50,6 +53,7 @@ fn compared(
     requires phase { IsPhaseNet nl.old.cells clocks.now.rst phase }
     requires within { from < phase.period }
     ensures adds { Adds nl.old nl.new 2 0 }
+    ensures counted { Counted nl.old nl.new 0 0 0 1 }
     ensures full { IsFullAt result nl.new }
     ensures net { IfOk result (λ y. IsNet nl.new.cells y.0 1) }
     ensures marks { IfOk result (λ y. InEveryResetRun nl.new.cells clocks.now.rst (λ run start. IsMarkTo phase.limit run start y.0 phase.net.0 from)) }
@@ -80,6 +84,7 @@ fn low_bits(nl: &mut Netlist, x: NetId, width: u32, bits: u32) -> Result<NetId, 
     requires low { 1 ≤ bits }
     requires high { bits ≤ 64 }
     ensures adds { Adds nl.old nl.new 1 0 }
+    ensures counted { Counted nl.old nl.new 0 0 0 0 }
     ensures full { IsFullAt result nl.new }
     ensures net { IfOk result (λ y. IsNet nl.new.cells y.0 bits) }
     ensures words { IfOk result (λ y. InEveryRunFrom (length nl.old.cells) nl.new.cells (λ run. IsResult run y.0 (WordOp.Cast bits) width (x ∷ x ∷ x ∷ []))) }
@@ -101,6 +106,7 @@ fn compared_low(
     requires high { bits ≤ 12 }
     requires enough { phase.limit ≤ 2 ^ bits }
     ensures adds { Adds nl.old nl.new 3 0 }
+    ensures counted { Counted nl.old nl.new 0 0 0 1 }
     ensures full { IsFullAt result nl.new }
     ensures net { IfOk result (λ y. IsNet nl.new.cells y.0 1) }
     ensures marks { IfOk result (λ y. InEveryResetRun nl.new.cells clocks.now.rst (λ run start. IsMarkTo phase.limit run start y.0 phase.net.0 from)) }
@@ -111,43 +117,74 @@ fn compared_low(
     less(nl, shown, bound, bits)
 }
 
-/// A mark that stands in a register.
-fn marked(nl: &mut Netlist, clocks: &Clocks, phase: PhaseNet, from: u32) -> Result<NetId, NetFault>
-    requires phase { IsPhaseNet nl.old.cells clocks.now.rst phase }
+/// A mark that stands in a register, and is shared by all columns that take their second step in the same phase.
+fn marked(
+    nl: &mut Netlist,
+    clocks: &mut Clocks,
+    phase: PhaseNet,
+    from: u32,
+) -> Result<NetId, NetFault>
+    requires belongs { Belongs clocks.old nl.old.cells }
+    requires phase { IsPhaseNet nl.old.cells clocks.old.rst phase }
     requires within { from < phase.period }
+    ensures belongs { Belongs clocks.new nl.new.cells }
+    ensures keeps { KeepsCounters clocks.old clocks.new }
     ensures adds { Adds nl.old nl.new 9 0 }
+    ensures counted { OnOk result (Counted nl.old nl.new (made_of clocks.old) (made_of clocks.new) 0 1) }
     ensures full { IsFullAt result nl.new }
     ensures net { IfOk result (λ y. IsNet nl.new.cells y.0 1) }
-    ensures marks { IfOk result (λ y. InEveryResetRun nl.new.cells clocks.now.rst (λ run start. IsMarkTo phase.limit run start y.0 phase.net.0 from)) }
+    ensures marks { IfOk result (λ y. InEveryResetRun nl.new.cells clocks.old.rst (λ run start. IsMarkTo phase.limit run start y.0 phase.net.0 from)) }
 {
     clocks.mark(nl, phase.net, phase.period, phase.offset, from)
 }
 
-/// The bit that is 1 in the phases before a number. Where it alone decides it stands in a register, which costs less
-/// than a comparison; many such bits would cost more than comparisons, which share the low bits of the counter.
+/// The bit that is 1 in the phases before a number: many such bits would cost more in registers than comparisons, which
+/// share the low bits of the counter.
 fn before_phase(
     nl: &mut Netlist,
     clocks: &Clocks,
     phase: PhaseNet,
     from: u32,
-    alone: bool,
 ) -> Result<NetId, NetFault>
     requires phase { IsPhaseNet nl.old.cells clocks.now.rst phase }
     requires within { from < phase.limit }
-    ensures adds { Adds nl.old nl.new 9 0 }
+    ensures adds { Adds nl.old nl.new 3 0 }
+    ensures counted { Counted nl.old nl.new 0 0 0 1 }
     ensures full { IsFullAt result nl.new }
     ensures net { IfOk result (λ y. IsNet nl.new.cells y.0 1) }
     ensures marks { IfOk result (λ y. InEveryResetRun nl.new.cells clocks.now.rst (λ run start. IsMarkTo phase.limit run start y.0 phase.net.0 from)) }
 {
-    if alone {
-        return marked(nl, clocks, phase, from);
-    }
     let bits = bits_below(phase.limit);
     if bits < width_at(nl, phase.net) {
         compared_low(nl, clocks, phase, from, bits)
     } else {
         compared(nl, clocks, phase, from)
     }
+}
+
+/// The word of a step where a bit that marks the phases before it is 0, and else that of an earlier net.
+fn choose_by(
+    nl: &mut Netlist,
+    clocks: &Clocks,
+    ins: &[NetId],
+    lines: &[Tapped],
+    step: &Step,
+    width: u32,
+    early: NetId,
+    before: NetId,
+) -> Result<NetId, NetFault>
+    requires low { 1 ≤ width }
+    requires high { width ≤ 64 }
+    requires ready { IsReady nl.old.cells clocks.now.rst width ins.now lines.now step.now.tap step.now.take }
+    requires early { IsNet nl.old.cells early.0 1 }
+    requires before { IsNet nl.old.cells before.0 width }
+    ensures adds { Adds nl.old nl.new 2 0 }
+    ensures counted { Counted nl.old nl.new 0 0 0 0 }
+    ensures full { IsFullAt result nl.new }
+    ensures column { IfOk result (λ y. (phase limit : ℕ) (choice : ℕ → Taken) → InEveryResetRun nl.old.cells clocks.now.rst (λ run start. IsMarkTo limit run start early.0 phase step.now.from) → IsColumn nl.old.cells clocks.now.rst width phase limit ins.now choice before.0 → IsColumn nl.new.cells clocks.now.rst width phase limit ins.now (λ p. later p (choice p) step.now) y.0) }
+{
+    let taken = source(nl, clocks, ins, lines, step, width)?;
+    choose(nl, early, before, taken, width)
 }
 
 /// The word of a step from its first phase on, and before it that of an earlier net.
@@ -159,7 +196,6 @@ fn choose_from(
     step: &Step,
     width: u32,
     phase: PhaseNet,
-    alone: bool,
     before: NetId,
 ) -> Result<NetId, NetFault>
     requires low { 1 ≤ width }
@@ -169,12 +205,12 @@ fn choose_from(
     requires ready { IsReady nl.old.cells clocks.now.rst width ins.now lines.now step.now.tap step.now.take }
     requires before { IsNet nl.old.cells before.0 width }
     ensures adds { Adds nl.old nl.new 11 0 }
+    ensures counted { Counted nl.old nl.new 0 0 0 1 }
     ensures full { IsFullAt result nl.new }
     ensures column { IfOk result (λ y. (choice : ℕ → Taken) → IsColumn nl.old.cells clocks.now.rst width phase.net.0 phase.limit ins.now choice before.0 → IsColumn nl.new.cells clocks.now.rst width phase.net.0 phase.limit ins.now (λ p. later p (choice p) step.now) y.0) }
 {
-    let early = before_phase(nl, clocks, phase, step.from, alone)?;
-    let taken = source(nl, clocks, ins, lines, step, width)?;
-    choose(nl, early, before, taken, width)
+    let early = before_phase(nl, clocks, phase, step.from)?;
+    choose_by(nl, clocks, ins, lines, step, width, early, before)
 }
 
 /// A net that takes by phases what the steps say.
@@ -191,15 +227,69 @@ fn select(
     requires begun { 1 ≤ length steps.now }
     requires ready { AreReady nl.old.cells clocks.now.rst width phase.limit ins.now lines.now steps.now }
     ensures adds { Adds nl.old nl.new (steps_cells steps.now) 0 }
+    ensures counted { Counted nl.old nl.new 0 0 0 (steps_tests steps.now) }
     ensures full { IsFullAt result nl.new }
     ensures column { IfOk result (λ y. IsColumn nl.new.cells clocks.now.rst width phase.net.0 phase.limit ins.now (λ p. choice_in p steps.now) y.0) }
 {
-    let alone = steps.len() == 2;
     let mut net = source(nl, clocks, ins, lines, &steps[0], width)?;
     for k in 1..steps.len() {
-        net = choose_from(nl, clocks, ins, lines, &steps[k], width, phase, alone, net)?;
+        net = choose_from(nl, clocks, ins, lines, &steps[k], width, phase, net)?;
     }
     Ok(net)
+}
+
+/// The same of two steps, by a mark: where one bit decides alone, a register costs less than a comparison.
+fn select_two(
+    nl: &mut Netlist,
+    clocks: &mut Clocks,
+    ins: &[NetId],
+    lines: &[Tapped],
+    steps: &[Step],
+    width: u32,
+    phase: PhaseNet,
+) -> Result<NetId, NetFault>
+    requires belongs { Belongs clocks.old nl.old.cells }
+    requires phase { IsPhaseNet nl.old.cells clocks.old.rst phase }
+    requires two { length steps.now ≡ 2 }
+    requires ready { AreReady nl.old.cells clocks.old.rst width phase.limit ins.now lines.now steps.now }
+    ensures belongs { Belongs clocks.new nl.new.cells }
+    ensures keeps { KeepsCounters clocks.old clocks.new }
+    ensures adds { Adds nl.old nl.new (steps_cells steps.now) 0 }
+    ensures counted { OnOk result (Counted nl.old nl.new (made_of clocks.old) (made_of clocks.new) 0 (steps_tests steps.now)) }
+    ensures full { IsFullAt result nl.new }
+    ensures column { IfOk result (λ y. IsColumn nl.new.cells clocks.old.rst width phase.net.0 phase.limit ins.now (λ p. choice_in p steps.now) y.0) }
+{
+    let first = source(nl, clocks, ins, lines, &steps[0], width)?;
+    let early = marked(nl, clocks, phase, steps[1].from)?;
+    choose_by(nl, clocks, ins, lines, &steps[1], width, early, first)
+}
+
+/// A net that takes by phases what the steps say, by a mark or by comparisons.
+fn chosen(
+    nl: &mut Netlist,
+    clocks: &mut Clocks,
+    ins: &[NetId],
+    lines: &[Tapped],
+    steps: &[Step],
+    width: u32,
+    phase: PhaseNet,
+) -> Result<NetId, NetFault>
+    requires belongs { Belongs clocks.old nl.old.cells }
+    requires phase { IsPhaseNet nl.old.cells clocks.old.rst phase }
+    requires begun { 1 ≤ length steps.now }
+    requires ready { AreReady nl.old.cells clocks.old.rst width phase.limit ins.now lines.now steps.now }
+    ensures belongs { Belongs clocks.new nl.new.cells }
+    ensures keeps { KeepsCounters clocks.old clocks.new }
+    ensures adds { Adds nl.old nl.new (steps_cells steps.now) 0 }
+    ensures counted { OnOk result (Counted nl.old nl.new (made_of clocks.old) (made_of clocks.new) 0 (steps_tests steps.now)) }
+    ensures full { IsFullAt result nl.new }
+    ensures column { IfOk result (λ y. IsColumn nl.new.cells clocks.old.rst width phase.net.0 phase.limit ins.now (λ p. choice_in p steps.now) y.0) }
+{
+    if steps.len() == 2 {
+        select_two(nl, clocks, ins, lines, steps, width, phase)
+    } else {
+        select(nl, clocks, ins, lines, steps, width, phase)
+    }
 }
 
 /// The place of the step that decides in a phase.
@@ -231,6 +321,7 @@ fn set_in_reset(
     requires net { IsNet nl.old.cells chosen.0 width }
     requires fits { word < 2 ^ width }
     ensures adds { Adds nl.old nl.new 3 0 }
+    ensures counted { Counted nl.old nl.new 0 0 1 0 }
     ensures full { IsFullAt result nl.new }
     ensures column { IfOk result (λ y. (phase limit p : ℕ) (ins : List Net) (choice : ℕ → Taken) → choice p ≡ Choice.Constant word → IsColumn nl.old.cells clocks.now.rst width phase limit ins choice chosen.0 → IsEarlyColumn nl.new.cells clocks.now.rst width phase limit p ins choice y.0) }
 {
@@ -254,6 +345,7 @@ fn registered(
     requires net { IsNet nl.old.cells chosen.0 width }
     requires fits { (w : ℕ) → first ≡ Choice.Constant w → w < 2 ^ width }
     ensures adds { Adds nl.old nl.new 3 0 }
+    ensures counted { Counted nl.old nl.new 0 0 1 0 }
     ensures full { IsFullAt result nl.new }
     ensures column { IfOk result (λ y. (phase limit p : ℕ) (ins : List Net) (choice : ℕ → Taken) → choice p ≡ first → IsColumn nl.old.cells clocks.now.rst width phase limit ins choice chosen.0 → IsEarlyColumn nl.new.cells clocks.now.rst width phase limit p ins choice y.0) }
 {
@@ -266,29 +358,33 @@ fn registered(
 /// A net that takes by phases what the steps say, chosen in the clock before and put in a register.
 fn early_column(
     nl: &mut Netlist,
-    clocks: &Clocks,
+    clocks: &mut Clocks,
     ins: &[NetId],
     lines: &[Tapped],
     steps: &[Step],
     width: u32,
     phase: PhaseNet,
 ) -> Result<NetId, NetFault>
-    requires phase { IsPhaseNet nl.old.cells clocks.now.rst phase }
+    requires belongs { Belongs clocks.old nl.old.cells }
+    requires phase { IsPhaseNet nl.old.cells clocks.old.rst phase }
     requires begun { 1 ≤ length steps.now }
-    requires ready { AreReady nl.old.cells clocks.now.rst width phase.limit ins.now lines.now steps.now }
+    requires ready { AreReady nl.old.cells clocks.old.rst width phase.limit ins.now lines.now steps.now }
+    ensures belongs { Belongs clocks.new nl.new.cells }
+    ensures keeps { KeepsCounters clocks.old clocks.new }
     ensures adds { Adds nl.old nl.new (steps_cells steps.now + 3) 0 }
+    ensures counted { OnOk result (Counted nl.old nl.new (made_of clocks.old) (made_of clocks.new) 1 (steps_tests steps.now)) }
     ensures full { IsFullAt result nl.new }
-    ensures column { IfOk result (λ y. IsEarlyColumn nl.new.cells clocks.now.rst width phase.net.0 phase.limit (first_phase phase) ins.now (λ p. choice_in p steps.now) y.0) }
+    ensures column { IfOk result (λ y. IsEarlyColumn nl.new.cells clocks.old.rst width phase.net.0 phase.limit (first_phase phase) ins.now (λ p. choice_in p steps.now) y.0) }
 {
     let first = step_in(steps, phase.period - 1 - phase.offset);
-    let chosen = select(nl, clocks, ins, lines, steps, width, phase)?;
-    registered(nl, clocks, chosen, width, steps[first].take)
+    let net = chosen(nl, clocks, ins, lines, steps, width, phase)?;
+    registered(nl, clocks, net, width, steps[first].take)
 }
 
 /// A net that takes by phases what the steps say, with the counter of columns that are chosen early, or of others.
 pub fn column(
     nl: &mut Netlist,
-    clocks: &Clocks,
+    clocks: &mut Clocks,
     ins: &[NetId],
     lines: &[Tapped],
     steps: &[Step],
@@ -296,16 +392,20 @@ pub fn column(
     early: bool,
     phase: PhaseNet,
 ) -> Result<NetId, NetFault>
-    requires phase { IsPhaseNet nl.old.cells clocks.now.rst phase }
+    requires belongs { Belongs clocks.old nl.old.cells }
+    requires phase { IsPhaseNet nl.old.cells clocks.old.rst phase }
     requires begun { 1 ≤ length steps.now }
-    requires ready { AreReady nl.old.cells clocks.now.rst width phase.limit ins.now lines.now steps.now }
+    requires ready { AreReady nl.old.cells clocks.old.rst width phase.limit ins.now lines.now steps.now }
+    ensures belongs { Belongs clocks.new nl.new.cells }
+    ensures keeps { KeepsCounters clocks.old clocks.new }
     ensures adds { Adds nl.old nl.new (steps_cells steps.now + 3) 0 }
+    ensures counted { OnOk result (Counted nl.old nl.new (made_of clocks.old) (made_of clocks.new) (if early then 1 else 0) (steps_tests steps.now)) }
     ensures full { IsFullAt result nl.new }
-    ensures column { IfOk result (λ y. IsMade early nl.new.cells clocks.now.rst width phase ins.now (λ p. choice_in p steps.now) y.0) }
+    ensures column { IfOk result (λ y. IsMade early nl.new.cells clocks.old.rst width phase ins.now (λ p. choice_in p steps.now) y.0) }
 {
     if early {
         early_column(nl, clocks, ins, lines, steps, width, phase)
     } else {
-        select(nl, clocks, ins, lines, steps, width, phase)
+        chosen(nl, clocks, ins, lines, steps, width, phase)
     }
 }

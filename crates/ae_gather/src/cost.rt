@@ -1,13 +1,15 @@
-// How many cells and memories a plan takes.
+// How many cells, memories, registers and comparisons a plan takes.
 
 ghost use Rattle.std.specs.Prelude.{◌≡◌, ◌<◌, ◌≤◌, ◌+◌, ◌*◌, ◌^◌, ◌∷◌, [], if◌then◌else◌, ℕ, List, length, count_by, sum_by, nat_lt, Some, slice_get};
 ghost use Rattle.ae_clocked.specs.Delays.{greatest_of, line_cells};
 ghost use Rattle.ae_clocked.specs.Rings.{rings};
 ghost use Rattle.ae_gather.specs.declared.trips.Step.{Step as Part};
+ghost use Rattle.ae_gather.specs.Counts.{early_count, line_registers, reader_count, reader_registers, steps_tests};
 ghost use Rattle.ae_gather.specs.Plans.{line_mems, steps_cells};
 ghost use Rattle.ae_gather.specs.Reads.{ring_count};
 
 use crate::plan::{Ages, Steps};
+use crate::reads::Reads;
 use crate::trips::Step;
 
 fn greatest(ages: &[u32]) -> u32
@@ -102,7 +104,7 @@ pub fn lines_rings(lines: &[Ages]) -> u64
     count
 }
 
-fn one_if(has: bool) -> u64
+pub fn one_if(has: bool) -> u64
     ensures { result ≡ (if has then 1 else 0) }
 {
     if has { 1 } else { 0 }
@@ -116,6 +118,77 @@ pub fn rings_count(rings: &[bool]) -> u64
     let mut count = 0u64;
     for q in 0..rings.len() {
         count = count.saturating_add(one_if(rings[q]));
+    }
+    count
+}
+
+fn line_registers(ages: &[u32]) -> u64
+    ensures { result ≡ line_registers ages.now }
+{
+    u64::from(greatest(ages).min(7))
+}
+
+/// The most registers of the lines, where that number holds them.
+pub fn lines_registers(lines: &[Ages]) -> u64
+    ensures low { result ≤ sum_by line_registers lines.now }
+    ensures high { result < 18446744073709551615 → sum_by line_registers lines.now ≤ result }
+{
+    let mut count = 0u64;
+    for q in 0..lines.len() {
+        count = count.saturating_add(line_registers(lines[q].all()));
+    }
+    count
+}
+
+/// The most comparisons of the choices, where that number holds them.
+pub fn columns_tests(columns: &[Steps]) -> u64
+    ensures low { result ≤ sum_by steps_tests columns.now }
+    ensures high { result < 18446744073709551615 → sum_by steps_tests columns.now ≤ result }
+{
+    let mut count = 0u64;
+    for q in 0..columns.len() {
+        count = count.saturating_add((columns[q].all().len() as u64).saturating_sub(1));
+    }
+    count
+}
+
+/// The steps of the choices, where that number holds them.
+pub fn columns_steps(columns: &[Steps]) -> u64
+    ensures low { result ≤ sum_by length columns.now }
+    ensures high { result < 18446744073709551615 → sum_by length columns.now ≤ result }
+{
+    let mut count = 0u64;
+    for q in 0..columns.len() {
+        count = count.saturating_add(columns[q].all().len() as u64);
+    }
+    count
+}
+
+/// How many columns are chosen early, where that number holds it.
+pub fn early_count(early: &[bool]) -> u64
+    ensures low { result ≤ early_count early.now }
+    ensures high { result < 18446744073709551615 → early_count early.now ≤ result }
+{
+    rings_count(early)
+}
+
+fn reader_registers(rings: &[bool], from: Option<u32>) -> u64
+    ensures { result ≡ reader_registers rings.now from }
+{
+    match from {
+        Some(x) => one_if((x as usize) < rings.len() && rings[x as usize]),
+        None => 0,
+    }
+}
+
+/// The registers of the columns that read rings, where that number holds them.
+pub fn readers_count(reads: &Reads) -> u64
+    ensures low { result ≤ reader_count reads.now }
+    ensures high { result < 18446744073709551615 → reader_count reads.now ≤ result }
+{
+    let mut count = 0u64;
+    for q in 0..reads.from.len() {
+        count = count.saturating_add(reader_registers(&reads.rings, reads.from[q]));
     }
     count
 }

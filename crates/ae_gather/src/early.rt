@@ -7,8 +7,10 @@ ghost use Rattle.ae_moves.specs.Trees.{trip_tree};
 ghost use Rattle.ae_moves.specs.declared.trip.Trip.{Trip as Way};
 ghost use Rattle.ae_gather.specs.declared.trips.Step.{Step as Part};
 ghost use Rattle.ae_gather.specs.Plans.{AreInOrder, AreWithin, IsPlan, IsReached};
+ghost use Rattle.ae_gather.specs.Counts.{early_count, schedule_registers};
 ghost use Rattle.ae_gather.specs.Early.{AllComeLate, AreInTime, ComesLate, hastened, is_early};
 
+use crate::cost::{early_count, lines_registers};
 use crate::plan::{Plan, Steps, planned};
 use crate::trips::Step;
 use ae_moves::{Choice, Source, Trip};
@@ -138,7 +140,50 @@ fn all_sooner(alloc: Global, trips: &[Trip], early: &[bool]) -> Result<Vec<Trip>
     Ok(moved)
 }
 
-/// Which columns are chosen early, and a plan for them.
+/// The trips with the words that these columns take sooner, and a plan for them.
+fn schedule_of(
+    alloc: Global,
+    trips: &[Trip],
+    d: u32,
+    ins: u32,
+    outs: u32,
+    early: Vec<bool>,
+) -> Result<Schedule, AllocError>
+    requires latency { d ≤ 4096 }
+    requires few { length trips.now < 2 ^ 32 }
+    requires within { AreWithin 4096 d ins outs trips.now }
+    requires order { AreInOrder trips.now }
+    requires early { length early.items ≡ outs }
+    requires time { AreInTime d early.items trips.now }
+    ensures same { IfOk result (λ s. s.early.items ≡ early.items) }
+    ensures early { IfOk result (λ s. length s.early.items ≡ outs) }
+    ensures time { IfOk result (λ s. AreInTime d s.early.items trips.now) }
+    ensures moved { IfOk result (λ s. s.moved.items ≡ map (hastened s.early.items) trips.now) }
+    ensures lines { IfOk result (λ s. length s.plan.lines.items ≡ ins) }
+    ensures columns { IfOk result (λ s. length s.plan.columns.items ≡ outs) }
+    ensures plan { IfOk result (λ s. IsPlan d s.moved.items s.plan.lines.items s.plan.columns.items) }
+    ensures runs { IfOk result (λ s. sum_by length s.plan.columns.items ≤ runs_of d outs (map trip_tree trips.now)) }
+    ensures delay { IfOk result (λ s. sum_by greatest_of s.plan.lines.items ≤ delay_of d ins (map trip_tree trips.now)) }
+    ensures ages { IfOk result (λ s. (q : ℕ) (ages : List ℕ) → slice_get s.plan.lines.items q ≡ Some ages → greatest_of ages ≤ column_delay d q (map trip_tree trips.now)) }
+    ensures taps { IfOk result (λ s. sum_by length s.plan.lines.items ≤ sum_by length s.plan.columns.items) }
+    ensures few { IfOk result (λ s. (q : ℕ) (ages : List ℕ) → slice_get s.plan.lines.items q ≡ Some ages → length ages ≤ length trips.now) }
+{
+    let moved = all_sooner(alloc, trips, &early)?;
+    let plan = planned(alloc, &moved, d, ins, outs)?;
+    Ok(Schedule { early, moved, plan })
+}
+
+/// Whether the registers of the lines and of the columns that are chosen early are no more than so many.
+fn is_spare(schedule: &Schedule, spare: u64) -> bool
+    ensures { result ≡ true → schedule_registers schedule.now ≤ spare }
+{
+    let lines = lines_registers(&schedule.plan.lines);
+    let early = early_count(&schedule.early);
+    lines.max(early) < u64::MAX && u128::from(lines) + u128::from(early) <= u128::from(spare)
+}
+
+/// Which columns are chosen early, and a plan for them. They are only where the registers that this takes, with those of the
+/// lines, are no more than `spare`.
 pub fn scheduled(
     alloc: Global,
     trips: &[Trip],
@@ -146,6 +191,7 @@ pub fn scheduled(
     ins: u32,
     outs: u32,
     alone: bool,
+    spare: u64,
 ) -> Result<Schedule, AllocError>
     requires latency { d ≤ 4096 }
     requires few { length trips.now < 2 ^ 32 }
@@ -162,9 +208,14 @@ pub fn scheduled(
     ensures ages { IfOk result (λ s. (q : ℕ) (ages : List ℕ) → slice_get s.plan.lines.items q ≡ Some ages → greatest_of ages ≤ column_delay d q (map trip_tree trips.now)) }
     ensures taps { IfOk result (λ s. sum_by length s.plan.lines.items ≤ sum_by length s.plan.columns.items) }
     ensures few { IfOk result (λ s. (q : ℕ) (ages : List ℕ) → slice_get s.plan.lines.items q ≡ Some ages → length ages ≤ length trips.now) }
+    ensures spare { IfOk result (λ s. 1 ≤ early_count s.early.items → schedule_registers s ≤ spare) }
 {
     let early = which_early(alloc, trips, d, ins, outs, alone)?;
-    let moved = all_sooner(alloc, trips, &early)?;
-    let plan = planned(alloc, &moved, d, ins, outs)?;
-    Ok(Schedule { early, moved, plan })
+    let first = schedule_of(alloc, trips, d, ins, outs, early)?;
+    if is_spare(&first, spare) {
+        return Ok(first);
+    }
+    let none = none_early(alloc, outs)?;
+    let plain = schedule_of(alloc, trips, d, ins, outs, none)?;
+    Ok(plain)
 }

@@ -1,14 +1,16 @@
 // Words that one register keeps for a period: its net, and the trips that take them from there.
 
-ghost use Rattle.std.specs.Prelude.{◌≡◌, ◌<◌, ◌≤◌, ◌+◌, ◌-◌, ◌*◌, ◌%◌, ◌^◌, ℕ, length, map, is_some, if◌then◌else◌, IfOk, Some, slice_get};
+ghost use Rattle.std.specs.Prelude.{◌≡◌, ◌<◌, ◌≤◌, ◌+◌, ◌-◌, ◌*◌, ◌%◌, ◌^◌, ℕ, length, map, is_some, if◌then◌else◌, IfOk, OnOk, Some, slice_get};
 ghost use Rattle.ae_netlist.specs.Circuit.{IsNet, width_of};
-ghost use Rattle.ae_clocked.specs.Phases.{Belongs, KeepsCounters};
+ghost use Rattle.ae_clocked.specs.Phases.{Belongs, KeepsCounters, made_of};
 ghost use Rattle.ae_clocked.specs.Signals.{Adds, IsFullAt};
 ghost use Rattle.ae_moves.specs.declared.trip.Trip.{Trip as Way};
 ghost use Rattle.ae_gather.specs.Columns.{net_of};
+ghost use Rattle.ae_gather.specs.Counts.{Counted};
 ghost use Rattle.ae_gather.specs.Held.{AreKept, IsHeld, Keeps, held_phase, kept_count, settled, settled_place};
 ghost use Rattle.ae_gather.specs.Plans.{IsIn, IsReached};
 
+use crate::cost::one_if;
 use crate::counters::offset;
 use crate::holding::hold;
 use ae_clocked::{Clocks, width_at};
@@ -34,6 +36,7 @@ fn held_net(
     ensures belongs { Belongs clocks.new nl.new.cells }
     ensures keeps { KeepsCounters clocks.old clocks.new }
     ensures adds { Adds nl.old nl.new 16 0 }
+    ensures counted { OnOk result (Counted nl.old nl.new (made_of clocks.old) (made_of clocks.new) 1 1) }
     ensures full { IsFullAt result nl.new }
     ensures held { IfOk result (λ y. IsHeld nl.new.cells clocks.old.rst (width_of nl.old.cells x.0) period ((arrival + d) % period) (held_phase period d clock) x.0 y.0) }
 {
@@ -62,6 +65,7 @@ fn kept_net(
     ensures belongs { Belongs clocks.new nl.new.cells }
     ensures keeps { KeepsCounters clocks.old clocks.new }
     ensures adds { Adds nl.old nl.new (16 * (if is_some held then 1 else 0)) 0 }
+    ensures counted { OnOk result (Counted nl.old nl.new (made_of clocks.old) (made_of clocks.new) (if is_some held then 1 else 0) (if is_some held then 1 else 0)) }
     ensures full { IsFullAt result nl.new }
     ensures keeps_word { IfOk result (λ y. Keeps nl.new.cells clocks.old.rst period d arrival held x.0 y.0) }
 {
@@ -91,6 +95,7 @@ pub fn all_nets(
     ensures belongs { Belongs clocks.new nl.new.cells }
     ensures keeps { KeepsCounters clocks.old clocks.new }
     ensures adds { Adds nl.old nl.new (16 * kept_count held.now (length held.now)) 0 }
+    ensures counted { OnOk result (Counted nl.old nl.new (made_of clocks.old) (made_of clocks.new) (kept_count held.now (length held.now)) (kept_count held.now (length held.now))) }
     ensures full { IsFullAt result nl.new }
     ensures kept { IfOk result (λ all. AreKept nl.new.cells clocks.old.rst period d arrival ins.now held.now all.items) }
 {
@@ -101,6 +106,17 @@ pub fn all_nets(
         all.push(net)?;
     }
     Ok(all)
+}
+
+/// How many columns have a register.
+pub fn kept_count(held: &[Option<u32>]) -> u64
+    ensures { result ≡ kept_count held.now (length held.now) }
+{
+    let mut count = 0u64;
+    for q in 0..held.len() {
+        count += one_if(held[q].is_some());
+    }
+    count
 }
 
 /// Where a word comes from that is due in a clock of its block.

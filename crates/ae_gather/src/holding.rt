@@ -5,6 +5,7 @@ ghost use Rattle.ae_netlist.specs.Circuit.{IsNet, width_of};
 ghost use Rattle.ae_netlist.specs.Runs.{InEveryRunFrom};
 ghost use Rattle.ae_clocked.specs.Signals.{Adds, IsFullAt};
 ghost use Rattle.ae_clocked.specs.Phases.{IsCounter};
+ghost use Rattle.ae_gather.specs.Counts.{Counted};
 ghost use Rattle.ae_gather.specs.Held.{IsHeld, IsKept};
 
 use ae_clocked::{choose, close, constant, equal, register, width_at};
@@ -18,6 +19,7 @@ fn kept(nl: &mut Netlist, x: NetId, width: u32, r: NetId, q: u32) -> Result<NetI
     requires counter { IsNet nl.old.cells r.0 (width_of nl.old.cells r.0) }
     requires fits { q < 2 ^ width_of nl.old.cells r.0 }
     ensures adds { Adds nl.old nl.new 4 0 }
+    ensures counted { Counted nl.old nl.new 0 0 1 1 }
     ensures full { IsFullAt result nl.new }
     ensures net { IfOk result (λ y. IsNet nl.new.cells y.0 width) }
     ensures words { IfOk result (λ y. InEveryRunFrom (length nl.old.cells) nl.new.cells (λ run. IsKept run y.0 r.0 q x.0)) }
@@ -48,6 +50,7 @@ pub fn hold(
     requires within { q < period }
     requires counter { (rst : ℕ) × IsCounter nl.old.cells rst (record { period = period; offset = offset }) counter.0 }
     ensures adds { Adds nl.old nl.new 4 0 }
+    ensures counted { Counted nl.old nl.new 0 0 1 1 }
     ensures full { IsFullAt result nl.new }
     ensures held { IfOk result (λ y. (rst : ℕ) → IsCounter nl.old.cells rst (record { period = period; offset = offset }) counter.0 → IsHeld nl.new.cells rst width period offset q x.0 y.0) }
 {

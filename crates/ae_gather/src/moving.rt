@@ -1,18 +1,19 @@
 // All columns of a move.
 
 ghost use Rattle.std.specs.Prelude.{◌≡◌, ◌<◌, ◌≤◌, ◌+◌, ◌*◌, sum_by, min, ◌^◌, ℕ, List, length, map, IfOk, OnOk, Some, slice_get};
-ghost use Rattle.ae_sttype.specs.Moves.{delay_of, runs_of};
+ghost use Rattle.ae_sttype.specs.Moves.{delay_of, held_count, runs_of, steps_of};
 ghost use Rattle.ae_netlist.specs.declared.cell.NetId.{NetId as Net};
 ghost use Rattle.ae_netlist.specs.Circuit.{IsNet};
 ghost use Rattle.ae_netlist.specs.Counts.{AreWhole, count_of, is_memory, is_mul};
 ghost use Rattle.ae_clocked.specs.Signals.{Adds, Grows, IsFullAt};
-ghost use Rattle.ae_clocked.specs.Phases.{Belongs, KeepsCounters};
+ghost use Rattle.ae_clocked.specs.Phases.{Belongs, KeepsCounters, made_of};
 ghost use Rattle.ae_clocked.specs.Delays.{line_cells};
 ghost use Rattle.ae_gather.specs.declared.trips.Step.{Step as Part};
+ghost use Rattle.ae_gather.specs.Counts.{Counted, early_count, line_registers, schedule_registers, steps_tests};
 ghost use Rattle.ae_gather.specs.Early.{AreInTime, counter_for, hastened, is_early};
 ghost use Rattle.ae_gather.specs.Plans.{AreInOrder, AreUsed, AreWithin, IsPlan, choice_in, line_mems, steps_cells};
 ghost use Rattle.ae_gather.specs.Columns.{AreReady, IsPhaseNet, net_of};
-ghost use Rattle.ae_moves.specs.Rings.{mems_of};
+ghost use Rattle.ae_moves.specs.Rings.{mems_of, registers_of};
 ghost use Rattle.ae_moves.specs.Trees.{trip_tree};
 ghost use Rattle.ae_moves.specs.declared.trip.Trip.{Trip as Way};
 ghost use Rattle.ae_gather.specs.Laws.{AreColumns, AreFitting, AreLines, MakesTrips};
@@ -20,12 +21,12 @@ ghost use Rattle.ae_gather.specs.Laws.{AreColumns, AreFitting, AreLines, MakesTr
 use crate::column::column;
 use crate::counters::{counter_for, counters};
 use crate::early::{Schedule, scheduled};
-use crate::held::{all_nets, all_settled};
+use crate::held::{all_nets, all_settled, kept_count};
 use crate::plan::{Ages, Steps};
 use crate::reading::build_best;
 use crate::trips::Counters;
 use ae_clocked::{Clocks, Tapped, ring_line};
-use ae_moves::{Trip, held_columns};
+use ae_moves::{Trip, held_columns, most_registers};
 use ae_netlist::{NetFault, NetId, Netlist};
 use std::alloc::Global;
 
@@ -47,6 +48,7 @@ fn all_lines(
     ensures cells { length nl.new.cells ≤ length nl.old.cells + sum_by line_cells ages.now }
     ensures muls { count_of is_mul nl.new.cells ≡ count_of is_mul nl.old.cells }
     ensures memories { count_of is_memory nl.new.cells ≤ count_of is_memory nl.old.cells + sum_by line_mems ages.now }
+    ensures counted { OnOk result (Counted nl.old nl.new (made_of clocks.old) (made_of clocks.new) (sum_by line_registers ages.now) 0) }
     ensures whole { OnOk result (AreWhole nl.old.cells → AreWhole nl.new.cells) }
     ensures full { IsFullAt result nl.new }
     ensures lines { IfOk result (λ lines. AreLines nl.new.cells clocks.old.rst ins.now ages.now lines.items) }
@@ -63,7 +65,7 @@ fn all_lines(
 pub fn all_columns(
     alloc: Global,
     nl: &mut Netlist,
-    clocks: &Clocks,
+    clocks: &mut Clocks,
     ins: &[NetId],
     lines: &[Tapped],
     columns: &[Steps],
@@ -71,14 +73,18 @@ pub fn all_columns(
     early: &[bool],
     counters: Counters,
 ) -> Result<Vec<NetId>, NetFault>
+    requires belongs { Belongs clocks.old nl.old.cells }
     requires early { length early.now ≡ length columns.now }
-    requires phases { (q : ℕ) → q < length columns.now → IsPhaseNet nl.old.cells clocks.now.rst (counter_for (is_early early.now q) counters) }
+    requires phases { (q : ℕ) → q < length columns.now → IsPhaseNet nl.old.cells clocks.old.rst (counter_for (is_early early.now q) counters) }
     requires long { length widths.now ≡ length columns.now }
     requires begun { (q : ℕ) (steps : List Part) → slice_get columns.now q ≡ Some steps → 1 ≤ length steps }
-    requires ready { (q w : ℕ) (steps : List Part) → slice_get columns.now q ≡ Some steps → slice_get widths.now q ≡ Some w → AreReady nl.old.cells clocks.now.rst w (counter_for (is_early early.now q) counters).limit ins.now lines.now steps }
+    requires ready { (q w : ℕ) (steps : List Part) → slice_get columns.now q ≡ Some steps → slice_get widths.now q ≡ Some w → AreReady nl.old.cells clocks.old.rst w (counter_for (is_early early.now q) counters).limit ins.now lines.now steps }
+    ensures belongs { Belongs clocks.new nl.new.cells }
+    ensures keeps { KeepsCounters clocks.old clocks.new }
     ensures adds { Adds nl.old nl.new (sum_by steps_cells columns.now + 3 * length columns.now) 0 }
+    ensures counted { OnOk result (Counted nl.old nl.new (made_of clocks.old) (made_of clocks.new) (early_count early.now) (sum_by steps_tests columns.now)) }
     ensures full { IsFullAt result nl.new }
-    ensures columns { IfOk result (λ out. AreColumns nl.new.cells clocks.now.rst counters ins.now widths.now early.now columns.now out.items) }
+    ensures columns { IfOk result (λ out. AreColumns nl.new.cells clocks.old.rst counters ins.now widths.now early.now columns.now out.items) }
 {
     let mut out = Vec::new(alloc);
     for q in 0..columns.len() {
@@ -145,6 +151,7 @@ pub fn build_plan(
     ensures cells { length nl.new.cells ≤ length nl.old.cells + (12 * min 2 (length widths.now) + sum_by line_cells schedule.now.plan.lines.items + sum_by steps_cells schedule.now.plan.columns.items + 3 * length schedule.now.plan.columns.items) }
     ensures muls { count_of is_mul nl.new.cells ≡ count_of is_mul nl.old.cells }
     ensures memories { count_of is_memory nl.new.cells ≤ count_of is_memory nl.old.cells + sum_by line_mems schedule.now.plan.lines.items }
+    ensures counted { OnOk result (Counted nl.old nl.new (made_of clocks.old) (made_of clocks.new) (schedule_registers schedule.now) (sum_by steps_tests schedule.now.plan.columns.items)) }
     ensures whole { OnOk result (AreWhole nl.old.cells → AreWhole nl.new.cells) }
     ensures full { IsFullAt result nl.new }
     ensures long { IfOk result (λ out. length out.items ≡ length widths.now) }
@@ -200,6 +207,7 @@ pub fn gather(
     ensures cells { length nl.new.cells ≤ length nl.old.cells + 16 * (d + delay_of d (length ins.now) (map trip_tree trips.now) + runs_of d (length widths.now) (map trip_tree trips.now)) }
     ensures muls { count_of is_mul nl.new.cells ≡ count_of is_mul nl.old.cells }
     ensures memories { count_of is_memory nl.new.cells ≤ count_of is_memory nl.old.cells + mems_of period d (length ins.now) (map trip_tree trips.now) }
+    ensures counted { OnOk result (Counted nl.old nl.new (made_of clocks.old) (made_of clocks.new) (registers_of period d (length ins.now) (map trip_tree trips.now)) (steps_of period d (length widths.now) (map trip_tree trips.now) + held_count period d (length ins.now) (map trip_tree trips.now))) }
     ensures whole { OnOk result (AreWhole nl.old.cells → AreWhole nl.new.cells) }
     ensures full { IsFullAt result nl.new }
     ensures long { IfOk result (λ out. length out.items ≡ length widths.now) }
@@ -207,6 +215,8 @@ pub fn gather(
     ensures trips { IfOk result (λ out. MakesTrips nl.new.cells clocks.old.rst period d arrival ins.now out.items trips.now) }
 {
     let held = held_columns(alloc, trips, d, ins.len() as u32, period)?;
+    let most = most_registers(alloc, trips, d, ins.len() as u32, period)?;
+    let spare = most.saturating_sub(kept_count(&held));
     let all = all_nets(alloc, nl, clocks, ins, &held, period, d, arrival)?;
     let settled = all_settled(alloc, trips, &held, d)?;
     let schedule = scheduled(
@@ -216,9 +226,10 @@ pub fn gather(
         ins.len() as u32 + ins.len() as u32,
         widths.len() as u32,
         alone,
+        spare,
     )?;
     let out = build_best(
-        alloc, nl, clocks, &all, widths, &settled, &schedule, period, d, arrival, alone,
+        alloc, nl, clocks, &all, widths, &settled, &schedule, period, d, arrival, alone, spare,
     )?;
     Ok(out)
 }

@@ -5,11 +5,12 @@ ghost use Rattle.ae_netlist.specs.declared.cell.NetId.{NetId as Net};
 ghost use Rattle.ae_netlist.specs.Circuit.{IsNet, width_of};
 ghost use Rattle.ae_netlist.specs.Counts.{AreWhole, count_of, is_memory, is_mul};
 ghost use Rattle.ae_clocked.specs.Signals.{Adds, Grows, IsFullAt};
-ghost use Rattle.ae_clocked.specs.Phases.{Belongs, KeepsCounters};
+ghost use Rattle.ae_clocked.specs.Phases.{Belongs, KeepsCounters, made_of};
 ghost use Rattle.ae_clocked.specs.Delays.{line_cells};
 ghost use Rattle.ae_clocked.specs.Rings.{AddsMemories};
 ghost use Rattle.ae_clocked.specs.declared.ring.Ring.{Ring as Ringed};
 ghost use Rattle.ae_gather.specs.Columns.{net_of};
+ghost use Rattle.ae_gather.specs.Counts.{Counted, IsSpare, reader_count, reader_registers, schedule_registers, steps_tests};
 ghost use Rattle.ae_gather.specs.Early.{AreInTime, hastened, is_early};
 ghost use Rattle.ae_gather.specs.Laws.{AreFitting, FitsColumn, MakesTrips};
 ghost use Rattle.ae_gather.specs.Plans.{AreInOrder, AreUsed, AreWithin, IsPlan, line_mems, steps_cells};
@@ -18,7 +19,10 @@ ghost use Rattle.ae_gather.specs.Readers.{AreReads, AreRings, ReadsColumn, RingO
 ghost use Rattle.ae_gather.specs.Reads.{ring_count};
 ghost use Rattle.ae_moves.specs.declared.trip.Trip.{Trip as Way};
 
-use crate::cost::{columns_cost, lines_cost, lines_rings, rings_count};
+use crate::cost::{
+    columns_cost, columns_steps, columns_tests, early_count, lines_cost, lines_registers,
+    lines_rings, readers_count, rings_count,
+};
 use crate::counters::{counting, offset};
 use crate::early::{Schedule, none_early, scheduled};
 use crate::moving::{all_columns, build_plan, limit_of};
@@ -42,11 +46,30 @@ pub struct Reading {
     pub plan: Plan,
 }
 
-/// Whether what is read from rings takes no more cells and memories than the lines that would be there without them.
-fn is_no_dearer(reading: &Reading, schedule: &Schedule, outs: u32) -> bool
+/// Whether what is read from rings takes no more registers than so many, and no more comparisons than there are steps
+/// without rings.
+fn is_spare(reading: &Reading, schedule: &Schedule, spare: u64) -> bool
+    ensures { result ≡ true → IsSpare spare reading.now schedule.now }
+{
+    let readers = readers_count(&reading.reads);
+    let lines = lines_registers(&reading.schedule.plan.lines);
+    let early = early_count(&reading.schedule.early);
+    let shown = columns_tests(&reading.plan.columns);
+    let chosen = columns_tests(&reading.schedule.plan.columns);
+    if readers.max(lines).max(early).max(shown).max(chosen) == u64::MAX {
+        return false;
+    }
+    let registers = u128::from(readers) + u128::from(lines) + u128::from(early);
+    let tests = u128::from(shown) + u128::from(chosen);
+    registers <= u128::from(spare) && tests <= u128::from(columns_steps(&schedule.plan.columns))
+}
+
+/// Whether what is read from rings takes no more cells and memories than the lines that would be there without them, and
+/// registers and comparisons within their bounds.
+fn is_no_dearer(reading: &Reading, schedule: &Schedule, outs: u32, spare: u64) -> bool
     requires few { (q : ℕ) (ages : List ℕ) → slice_get reading.now.schedule.plan.lines.items q ≡ Some ages → length ages < 2 ^ 32 }
     requires few_lines { (q : ℕ) (ages : List ℕ) → slice_get schedule.now.plan.lines.items q ≡ Some ages → length ages < 2 ^ 32 }
-    ensures { result ≡ true → IsNoDearer outs reading.now schedule.now }
+    ensures { result ≡ true → IsNoDearer outs spare reading.now schedule.now }
 {
     let rings = rings_count(&reading.reads.rings);
     let lines = lines_cost(&reading.schedule.plan.lines);
@@ -60,7 +83,8 @@ fn is_no_dearer(reading: &Reading, schedule: &Schedule, outs: u32) -> bool
     let more = 14 * u128::from(rings) + 6 * u128::from(outs) + 12;
     let most = u128::from(lines_cost(&schedule.plan.lines))
         + u128::from(columns_cost(&schedule.plan.columns));
-    cells + more <= most
+    is_spare(reading, schedule, spare)
+        && cells + more <= most
         && u128::from(memories) + u128::from(rings) <= u128::from(lines_rings(&schedule.plan.lines))
 }
 
@@ -72,6 +96,7 @@ fn plan_reading(
     ins: u32,
     outs: u32,
     alone: bool,
+    spare: u64,
 ) -> Result<Reading, AllocError>
     requires latency { d ≤ 4096 }
     requires few { length trips.now < 2 ^ 32 }
@@ -82,7 +107,7 @@ fn plan_reading(
 {
     let reads = which_read(alloc, trips, d, ins, outs)?;
     let moved = all_read(alloc, trips, &reads, d)?;
-    let schedule = scheduled(alloc, &moved, d, ins + outs, outs, alone)?;
+    let schedule = scheduled(alloc, &moved, d, ins + outs, outs, alone, spare)?;
     let places = all_places(alloc, trips, &reads, d)?;
     let plan = planned(alloc, &places, d, 0, outs)?;
     Ok(Reading {
@@ -109,6 +134,7 @@ fn ring_of(
     ensures belongs { Belongs clocks.new nl.new.cells }
     ensures keeps { KeepsCounters clocks.old clocks.new }
     ensures adds { AddsMemories nl.old nl.new (14 * (if has then 1 else 0)) (if has then 1 else 0) }
+    ensures counted { OnOk result (Counted nl.old nl.new (made_of clocks.old) (made_of clocks.new) 0 0) }
     ensures full { IsFullAt result nl.new }
     ensures ring { IfOk result (λ r. (ring : Ringed) → r ≡ Some ring → RingOf nl.new.cells clocks.old.rst bits x.0 ring) }
     ensures has { IfOk result (λ r. has ≡ true → (ring : Ringed) × (r ≡ Some ring)) }
@@ -136,6 +162,7 @@ fn all_rings(
     ensures belongs { Belongs clocks.new nl.new.cells }
     ensures keeps { KeepsCounters clocks.old clocks.new }
     ensures adds { AddsMemories nl.old nl.new (14 * ring_count reads.now.rings.items) (ring_count reads.now.rings.items) }
+    ensures counted { OnOk result (Counted nl.old nl.new (made_of clocks.old) (made_of clocks.new) 0 0) }
     ensures full { IsFullAt result nl.new }
     ensures rings { IfOk result (λ rings. AreRings (length ins.now) nl.new.cells clocks.old.rst reads.now ins.now rings.items) }
 {
@@ -163,6 +190,7 @@ fn read_net(
     requires rings { (rst : ℕ) × AreRings (length ins.now) nl.old.cells rst reads.now ins.now rings.now }
     requires long { length ins.now ≡ length reads.now.rings.items }
     ensures adds { Adds nl.old nl.new 3 0 }
+    ensures counted { OnOk result (Counted nl.old nl.new 0 0 (reader_registers reads.now.rings.items (get_or reads.now.from.items q Option.None)) 0) }
     ensures full { IsFullAt result nl.new }
     ensures reads { IfOk result (λ y. (rst : ℕ) → AreRings (length ins.now) nl.old.cells rst reads.now ins.now rings.now → ReadsColumn nl.new.cells rst reads.now (get_or reads.now.from.items q Option.None) ins.now place.0 y.0) }
 {
@@ -170,7 +198,7 @@ fn read_net(
         return Ok(place);
     };
     let at = x as usize;
-    if at >= rings.len() {
+    if at >= rings.len() || !reads.rings[at] {
         return Ok(place);
     }
     let Some(ring) = rings[at] else {
@@ -197,6 +225,7 @@ fn all_reads(
     requires rings { (rst : ℕ) × AreRings (length ins.now) nl.old.cells rst reads.now ins.now rings.now }
     requires long { length ins.now ≡ length reads.now.rings.items }
     ensures adds { Adds nl.old nl.new (3 * length reads.now.from.items) 0 }
+    ensures counted { OnOk result (Counted nl.old nl.new 0 0 (reader_count reads.now) 0) }
     ensures full { IsFullAt result nl.new }
     ensures reads { IfOk result (λ all. (rst : ℕ) → AreRings (length ins.now) nl.old.cells rst reads.now ins.now rings.now → AreReads (length reads.now.from.items) nl.new.cells rst reads.now ins.now places.now all.items) }
 {
@@ -248,6 +277,7 @@ fn place_nets(
     ensures belongs { Belongs clocks.new nl.new.cells }
     ensures keeps { KeepsCounters clocks.old clocks.new }
     ensures adds { Adds nl.old nl.new (12 + (sum_by steps_cells reading.now.plan.columns.items + 3 * outs)) 0 }
+    ensures counted { OnOk result (Counted nl.old nl.new (made_of clocks.old) (made_of clocks.new) 0 (sum_by steps_tests reading.now.plan.columns.items)) }
     ensures full { IsFullAt result nl.new }
     ensures long { IfOk result (λ out. length out.items ≡ outs) }
     ensures nets { IfOk result (λ out. (q : ℕ) → q < outs → IsNet nl.new.cells (net_of out.items q) reading.now.reads.bits) }
@@ -308,6 +338,7 @@ fn build_reading(
     ensures cells { length nl.new.cells ≤ length nl.old.cells + (12 + 14 * ring_count reading.now.reads.rings.items + 6 * length widths.now + sum_by steps_cells reading.now.plan.columns.items + sum_by line_cells reading.now.schedule.plan.lines.items + sum_by steps_cells reading.now.schedule.plan.columns.items + 12 * min 2 (length widths.now) + 3 * length widths.now) }
     ensures muls { count_of is_mul nl.new.cells ≡ count_of is_mul nl.old.cells }
     ensures memories { count_of is_memory nl.new.cells ≤ count_of is_memory nl.old.cells + (ring_count reading.now.reads.rings.items + sum_by line_mems reading.now.schedule.plan.lines.items) }
+    ensures counted { OnOk result (Counted nl.old nl.new (made_of clocks.old) (made_of clocks.new) (reader_count reading.now.reads + schedule_registers reading.now.schedule) (sum_by steps_tests reading.now.plan.columns.items + sum_by steps_tests reading.now.schedule.plan.columns.items)) }
     ensures whole { OnOk result (AreWhole nl.old.cells → AreWhole nl.new.cells) }
     ensures full { IsFullAt result nl.new }
     ensures long { IfOk result (λ out. length out.items ≡ length widths.now) }
@@ -347,6 +378,7 @@ pub fn build_best(
     d: u32,
     arrival: u32,
     alone: bool,
+    spare: u64,
 ) -> Result<Vec<NetId>, NetFault>
     requires belongs { Belongs clocks.old nl.old.cells }
     requires lasting { 1 ≤ period }
@@ -366,12 +398,14 @@ pub fn build_best(
     requires columns { length schedule.now.plan.columns.items ≡ length widths.now }
     requires plan { IsPlan d schedule.now.moved.items schedule.now.plan.lines.items schedule.now.plan.columns.items }
     requires taps { (q : ℕ) (ages : List ℕ) → slice_get schedule.now.plan.lines.items q ≡ Some ages → length ages ≤ length trips.now }
+    requires spare { schedule_registers schedule.now ≤ spare }
     ensures belongs { Belongs clocks.new nl.new.cells }
     ensures keeps { KeepsCounters clocks.old clocks.new }
     ensures grows { Grows nl.old nl.new }
     ensures cells { length nl.new.cells ≤ length nl.old.cells + (12 * min 2 (length widths.now) + sum_by line_cells schedule.now.plan.lines.items + sum_by steps_cells schedule.now.plan.columns.items + 3 * length schedule.now.plan.columns.items) }
     ensures muls { count_of is_mul nl.new.cells ≡ count_of is_mul nl.old.cells }
     ensures memories { count_of is_memory nl.new.cells ≤ count_of is_memory nl.old.cells + sum_by line_mems schedule.now.plan.lines.items }
+    ensures counted { OnOk result (Counted nl.old nl.new (made_of clocks.old) (made_of clocks.new) spare (sum_by length schedule.now.plan.columns.items)) }
     ensures whole { OnOk result (AreWhole nl.old.cells → AreWhole nl.new.cells) }
     ensures full { IsFullAt result nl.new }
     ensures long { IfOk result (λ out. length out.items ≡ length widths.now) }
@@ -380,8 +414,8 @@ pub fn build_best(
 {
     if ins.len() < 2147483648 && widths.len() < 2147483648 {
         let outs = widths.len() as u32;
-        let reading = plan_reading(alloc, trips, d, ins.len() as u32, outs, alone)?;
-        if is_no_dearer(&reading, schedule, outs) {
+        let reading = plan_reading(alloc, trips, d, ins.len() as u32, outs, alone, spare)?;
+        if is_no_dearer(&reading, schedule, outs, spare) {
             let out = build_reading(
                 alloc, nl, clocks, ins, widths, trips, &reading, period, d, arrival,
             )?;

@@ -3,8 +3,9 @@
 ghost use Rattle.std.specs.Prelude.{◌≡◌, ◌≤◌, ◌+◌, ◌^◌, ℕ, length, IfOk, OnOk};
 ghost use Rattle.ae_netlist.specs.Circuit.{IsMemory, IsNet};
 ghost use Rattle.ae_clocked.specs.Signals.{Adds, IsFullAt};
-ghost use Rattle.ae_clocked.specs.Phases.{Belongs, KeepsCounters};
+ghost use Rattle.ae_clocked.specs.Phases.{Belongs, KeepsCounters, made_of};
 ghost use Rattle.ae_clocked.specs.Rings.{AddsMemories, IsRing};
+ghost use Rattle.ae_gather.specs.Counts.{Counted};
 ghost use Rattle.ae_gather.specs.Readers.{IsReader, RingOf};
 
 use ae_clocked::{Clocks, Ring, delayed, look, ring_depth, store, sum};
@@ -27,6 +28,7 @@ pub fn make_ring(
     ensures belongs { Belongs clocks.new nl.new.cells }
     ensures keeps { KeepsCounters clocks.old clocks.new }
     ensures adds { AddsMemories nl.old nl.new 14 1 }
+    ensures counted { OnOk result (Counted nl.old nl.new (made_of clocks.old) (made_of clocks.new) 0 0) }
     ensures full { IsFullAt result nl.new }
     ensures ring { IfOk result (λ ring. RingOf nl.new.cells clocks.old.rst bits x.0 ring) }
 {
@@ -51,6 +53,7 @@ pub fn ring_read(nl: &mut Netlist, ring: Ring, place: NetId, width: u32) -> Resu
     requires counter { IsNet nl.old.cells ring.counter.0 ring.bits }
     requires place { IsNet nl.old.cells place.0 ring.bits }
     ensures adds { Adds nl.old nl.new 3 0 }
+    ensures counted { OnOk result (Counted nl.old nl.new 0 0 1 0) }
     ensures full { IsFullAt result nl.new }
     ensures net { IfOk result (λ y. IsNet nl.new.cells y.0 width) }
     ensures reads { IfOk result (λ y. (rst x : ℕ) → IsRing nl.old.cells rst ring.bits x ring.counter.0 ring.memory.0 → IsReader nl.new.cells rst ring.bits x place.0 y.0) }

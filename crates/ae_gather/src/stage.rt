@@ -1,12 +1,18 @@
 // The stage of a move.
 
-ghost use Rattle.std.specs.Prelude.{◌≡◌, ◌+◌, ◌*◌, ◌%◌, ◌↔◌, ℕ, length, map, IsTrue, IsSome, IfSome, Some, slice_get};
+ghost use Rattle.std.specs.Prelude.{◌≡◌, ◌≤◌, ◌+◌, ◌*◌, ◌%◌, ◌↔◌, ℕ, length, map, IsTrue, IsSome, IfOk, IfSome, OnOk, Some, slice_get};
+ghost use Rattle.ae_netlist.specs.Counts.{AreWhole, count_of, is_memory, is_mul};
+ghost use Rattle.ae_clocked.specs.Signals.{Grows, IsFullAt};
+ghost use Rattle.ae_clocked.specs.Phases.{Belongs, KeepsCounters, made_of};
+ghost use Rattle.ae_ops.specs.Waves.{AreNets};
+ghost use Rattle.ae_ops.specs.Blocks.{AreBundles, KeepsLaw, stream_widths};
+ghost use Rattle.ae_gather.specs.Counts.{Counted};
 ghost use Rattle.ae_sttype.specs.declared.st_type.StType.{StType as Layout};
 ghost use Rattle.ae_sttype.specs.StTree.{element_words, st_atoms, st_tree, time};
 ghost use Rattle.ae_sttype.specs.Size.{IsInSize};
 ghost use Rattle.ae_moves.specs.Origins.{AllInSize, AreOrigins, HasOrigin, IsMove, width_at};
 ghost use Rattle.ae_moves.specs.Trees.{origin_tree};
-ghost use Rattle.ae_gather.specs.Gathers.{IsGather, gather_part, move_of};
+ghost use Rattle.ae_gather.specs.Gathers.{IsGather, gather_part, move_of, move_registers, move_tests};
 
 use crate::joining::join;
 use crate::layouts::all_widths;
@@ -102,6 +108,9 @@ impl Stage for Gather {
         latency(&self.ins, &self.out, &self.source)
     }
 
+    /// Beside what it promises as a stage: its registers are at most one for each held column of the inputs, 7 for each other
+    /// that is used, and one for each counter and mark that it makes; its comparisons at most one for each step of an output
+    /// column, for each held column, and for each counter and mark.
     fn build(
         &self,
         alloc: Global,
@@ -109,7 +118,21 @@ impl Stage for Gather {
         clocks: &mut Clocks,
         ins: &[Bundle],
         arrival: u32,
-    ) -> Result<Bundle, NetFault> {
+    ) -> Result<Bundle, NetFault>
+        requires belongs { Belongs clocks.old nl.old.cells }
+        requires bundles { AreBundles nl.old.cells (gather_part (move_of self.now)).ins ins.now }
+        ensures belongs { Belongs clocks.new nl.new.cells }
+        ensures keeps { KeepsCounters clocks.old clocks.new }
+        ensures grows { Grows nl.old nl.new }
+        ensures cells { length nl.new.cells ≤ length nl.old.cells + (gather_part (move_of self.now)).most_cells }
+        ensures muls { OnOk result (count_of is_mul nl.new.cells ≡ count_of is_mul nl.old.cells + (gather_part (move_of self.now)).products) }
+        ensures memories { OnOk result (count_of is_memory nl.new.cells ≤ count_of is_memory nl.old.cells + (gather_part (move_of self.now)).most_memories) }
+        ensures whole { OnOk result (AreWhole nl.old.cells → AreWhole nl.new.cells) }
+        ensures full { IsFullAt result nl.new }
+        ensures bundle { IfOk result (λ out. AreNets nl.new.cells (stream_widths (gather_part (move_of self.now)).out) out) }
+        ensures law { IfOk result (λ out. KeepsLaw nl.new.cells clocks.old.rst arrival (gather_part (move_of self.now)) ins.now out) }
+        ensures counted { OnOk result (Counted nl.old nl.new (made_of clocks.old) (made_of clocks.new) (move_registers (move_of self.now)) (move_tests (move_of self.now))) }
+    {
         let period = self.out.time();
         let joined = join(alloc, ins)?;
         let trips = all_trips(alloc, &self.ins, &joined.firsts, &self.out, &self.source)?;

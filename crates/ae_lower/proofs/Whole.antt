@@ -152,12 +152,12 @@ first_cells (x ∷ xs) (y ∷ ys) e =
 
 -- ---- the circuit
 
-pub reset_belongs : (ins : List StTree) (n : Circuit) (clocks : Kept) (rst : NetId) → HasBegun ins n → clocks ≡ record { rst = rst.0; counters = [] }
-    → rst.0 ≡ 0 → Belongs clocks n.cells
+pub reset_belongs : (ins : List StTree) (n : Circuit) (clocks : Kept) (rst : NetId) → HasBegun ins n
+    → clocks ≡ record { rst = rst.0; counters = []; marks = [] } → rst.0 ≡ 0 → Belongs clocks n.cells
 reset_belongs ins n clocks rst begun are is =
-    let zeroed : clocks ≡ record { rst = 0; counters = [] } = are ∙ ap (λ k. record { rst = k; counters = [] }) is in
+    let zeroed : clocks ≡ record { rst = 0; counters = []; marks = [] } = are ∙ ap (λ k. record { rst = k; counters = []; marks = [] }) is in
     let net : IsNet n.cells 0 1 = rw begun.cells (record { sized = input_cell reset_port; found = refl; plain = tt; wide = refl }) in
-    rw zeroed (record { rst = net; counters = λ phase net kept. cc })
+    rw zeroed (record { rst = net; counters = λ phase net kept. cc; marks = λ mark net kept. cc })
 
 pub inputs_begun : (ins : List StTree) (n : Circuit) → HasBegun ins n → AreBundles n.cells (streams_of ins) (bundles_from 1 (streams_of ins))
 inputs_begun ins n begun =

@@ -14,8 +14,8 @@ use Rattle.ae_streamed.specs.Beats.{GainsBit, HasMarks, IsBitOf}
 use Rattle.ae_streamed.proofs.Bits.{bit_later, bit_same}
 use Rattle.ae_streamed.proofs.Phasing.{first_is, last_is, phase_first, phase_late}
 
-pub belongs_new : (clocks : Kept) (cells : List SizedCell) → clocks ≡ record { rst = 0; counters = [] } → IsNet cells 0 1 → Belongs clocks cells
-belongs_new clocks cells is h = rw is (record { rst = h; counters = λ phase net found. cc })
+pub belongs_new : (clocks : Kept) (cells : List SizedCell) → clocks ≡ record { rst = 0; counters = []; marks = [] } → IsNet cells 0 1 → Belongs clocks cells
+belongs_new clocks cells is h = rw is (record { rst = h; counters = λ phase net found. cc; marks = λ mark net found. cc })
 
 module _ (a b c d e f : Circuit) (k0 k1 k2 k3 k4 k5 : Kept) (m : Marks) (slowdown r : ℕ) (inputs outputs : List StTree) (some : 0 < slowdown)
     (low : r < slowdown) (reset : k0.rst ≡ 0)

@@ -39,8 +39,8 @@ pub written_there : {cells : List SizedCell} {m w depth at next enable : ℕ} �
 written_there {cells} {m} {w} {depth} h a n e =
     rw (memory_width cells m w depth h, memory_depth cells m w depth h) (record { address = a; word = n; bit = e })
 
-pub belongs_new : (cells : List SizedCell) (rst : ℕ) → IsNet cells rst 1 → Belongs (record { rst = rst; counters = [] }) cells
-belongs_new cells rst h = record { rst = h; counters = λ phase net found. cc }
+pub belongs_new : (cells : List SizedCell) (rst : ℕ) → IsNet cells rst 1 → Belongs (record { rst = rst; counters = []; marks = [] }) cells
+belongs_new cells rst h = record { rst = h; counters = λ phase net found. cc; marks = λ mark net found. cc }
 
 pub reset_there : (cells : List SizedCell) (v : ℕ) (cell : Cell) (port : Port) → slice_get cells 0 ≡ Some (record { width = v; cell = cell }) → v ≡ 1
     → cell ≡ Input port → port ≡ Reset

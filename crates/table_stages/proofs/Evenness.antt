@@ -64,5 +64,5 @@ pub own_even : (cells : List SizedCell) (lanes w : ℕ) (nets : List NetId) → 
 own_even cells lanes w nets h = own_widths cells (repeated lanes (w ∷ [])) nets (even_nets cells lanes w nets h)
 
 -- clocks without a counter belong to a netlist that has their reset
-pub begins : (kept : Kept) (cells : List SizedCell) (rst : ℕ) → kept ≡ record { rst = rst; counters = [] } → IsNet cells rst 1 → Belongs kept cells
-begins kept cells rst e h = rw e (record { rst = h; counters = λ phase net found. cc })
+pub begins : (kept : Kept) (cells : List SizedCell) (rst : ℕ) → kept ≡ record { rst = rst; counters = []; marks = [] } → IsNet cells rst 1 → Belongs kept cells
+begins kept cells rst e h = rw e (record { rst = h; counters = λ phase net found. cc; marks = λ mark net found. cc })

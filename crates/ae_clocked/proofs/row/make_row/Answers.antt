@@ -2,7 +2,7 @@
 use Rattle.std.proofs.Common.{ℕ, ◌≡◌, ◌+◌, ◌-◌, ◌*◌, ◌/◌, min, ◌++◌, ◌∷◌, [], length, nat_lt, arith, refl, ap, ◌∙◌}
 use Rattle.std.proofs.lemmas.List.{length_push}
 use Rattle.ae_clocked.specs.Delays.{IsTap}
-use Rattle.ae_clocked.specs.Phases.{Kept}
+use Rattle.ae_clocked.specs.Phases.{made_of}
 use Rattle.ae_clocked.proofs.Adding.{adds_none}
 use Rattle.ae_clocked.proofs.Belonging.{belongs_grows, keeps_same}
 use Rattle.ae_clocked.specs.Rings.{HoldsRing}
@@ -83,7 +83,7 @@ loop-j-preserved c =
       gained = gained_by c.loop-j.j _ _ _ was.gained more.gained (λ some.
           (let found = was.far some in
           let same : c.make_ring.new.clocks ≡ c.loop-j.clocks = more.again found.0 (omega arith) found.1 in
-          let count : length c.make_ring.new.clocks.counters ≡ length c.loop-j.clocks.counters = ap (λ (k : Kept). length k.counters) same in
+          let count : made_of c.make_ring.new.clocks ≡ made_of c.loop-j.clocks = ap made_of same in
           omega arith));
       far = λ some. (c.in_ok-ring.ring.counter, more.far (omega arith));
       long = rw pushed (length_push c.loop-j.links.items _ ∙ ap (λ n. n + 1) was.long);

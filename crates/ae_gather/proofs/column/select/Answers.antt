@@ -4,6 +4,7 @@ use Rattle.ae_clocked.proofs.Adding.{adds_most, adds_trans}
 use Rattle.ae_gather.specs.declared.trips.Step.{Step}
 use Rattle.ae_moves.specs.declared.trip.Choice.TheVariants.{Delayed}
 use Rattle.ae_gather.proofs.Choosing.{first_column, next_column, whole_column, phase_grows, ready_grows}
+use Rattle.ae_gather.proofs.Counted.{counted_most, counted_trans}
 use Rattle.ae_gather.proofs.column.select.Goals as goal
 
 no_step : Step
@@ -14,6 +15,7 @@ unfolding no_step
 loop-k-init c =
     record {
       adds = c.in_ok-net.ensures.adds;
+      counted = c.in_ok-net.ensures.counted;
       within = c.requires.begun;
       column = first_column _ _ _ _ _ _ c.args.steps.now (get_or c.args.steps.now 0 no_step) _
           (slice_get-get_or c.args.steps.now 0 no_step c.requires.begun) c.in_ok-net.ensures.source;
@@ -37,6 +39,7 @@ unfolding no_step
 loop-k-preserved c =
     record {
       adds = adds_most _ (omega (arith, c.loop-k.auto.k)) (adds_trans c.loop-k.invariant.adds c.in_ok-net-2.ensures.adds);
+      counted = counted_most _ _ (omega arith) (omega (arith, c.loop-k.auto.k)) (counted_trans c.loop-k.invariant.counted c.in_ok-net-2.ensures.counted);
       within = omega (arith, c.loop-k-test.true);
       column = next_column _ _ _ _ _ _ c.args.steps.now c.loop-k.k (get_or c.args.steps.now c.loop-k.k no_step) _ c.loop-k.auto.k c.loop-k-test.true
           (slice_get-get_or c.args.steps.now c.loop-k.k no_step c.loop-k-test.true) (c.in_ok-net-2.ensures.column _ c.loop-k.invariant.column);
@@ -51,3 +54,11 @@ returns-clause-adds c = adds_most _ (omega (arith, c.loop-k-test.false, c.loop-k
 
 pub returns-clause-column : goal.returns-clause-column
 returns-clause-column c = whole_column _ _ _ _ _ _ c.args.steps.now c.loop-k.k _ (omega (arith, c.loop-k-test.false)) c.loop-k.invariant.column
+
+pub returns-clause-counted : goal.returns-clause-counted
+returns-clause-counted c = counted_most _ _ (omega arith) (omega (arith, c.loop-k-test.false, c.loop-k.invariant.within)) c.loop-k.invariant.counted
+
+pub returns-in_err-net-2-clause-counted : goal.returns-in_err-net-2-clause-counted
+returns-in_err-net-2-clause-counted c =
+    counted_most _ _ (omega arith) (omega (arith, c.loop-k.auto.k, c.loop-k-test.true))
+    (counted_trans c.loop-k.invariant.counted c.in_err-net-2.ensures.counted)

@@ -6,6 +6,7 @@ use Rattle.ae_gather.specs.Early.{is_early}
 use Rattle.ae_gather.proofs.Choosing.{phase_grows}
 use Rattle.ae_gather.proofs.Earliness.{all_false, all_true, two_flags}
 use Rattle.ae_gather.proofs.Scheduled.{has_either, has_later, has_sooner}
+use Rattle.ae_gather.proofs.Counted.{counted_trans}
 use Rattle.ae_gather.proofs.counters.counters.Goals as goal
 use Rattle.ae_clocked.proofs.InRow.{keeps_trans}
 
@@ -106,3 +107,12 @@ returns-then-not-has-2-clause-adds c = adds_most _ (one_room _ c.requires.some) 
 
 pub returns-in_err-later-clause-adds : goal.returns-in_err-later-clause-adds
 returns-in_err-later-clause-adds c = adds_most _ (one_room _ c.requires.some) c.in_err-later.ensures.adds
+
+pub returns-then-not-has-clause-counted : goal.returns-then-not-has-clause-counted
+returns-then-not-has-clause-counted c = c.in_ok-only.ensures.counted
+
+pub returns-then-not-has-2-clause-counted : goal.returns-then-not-has-2-clause-counted
+returns-then-not-has-2-clause-counted c = c.in_ok-only-2.ensures.counted
+
+pub returns-clause-counted : goal.returns-clause-counted
+returns-clause-counted c = counted_trans c.in_ok-later.ensures.counted c.in_ok-sooner.ensures.counted

@@ -1,32 +1,18 @@
-use Rattle.std.proofs.Common.{◌≡◌, map, arith}
-use Rattle.ae_gather.specs.Early.{hastened}
-use Rattle.ae_gather.proofs.Hastened.{column_hastened, delay_hastened, order_hastened, runs_hastened, within_hastened}
+-- Columns are chosen early, or none is.
+use Rattle.std.proofs.Common.{◌≡◌, arith}
+use Rattle.ae_gather.specs.Counts.{early_count}
+use Rattle.ae_gather.proofs.Counted.{none_count}
+use Rattle.ae_gather.proofs.Earliness.{none_in_time}
 use Rattle.ae_gather.proofs.early.scheduled.Goals as goal
 
-pub planned-requires-clause-within : goal.planned-requires-clause-within
-planned-requires-clause-within c =
-    let moved : c.in_ok-moved.moved.items ≡ map (hastened c.in_ok-early.early.items) c.args.trips.now = rw c.deref.ensures.value at c.in_ok-moved.ensures in
-    rw c.deref-2.ensures.value (within_hastened _ _ _ _ _ _ _ moved c.in_ok-early.ensures.time c.requires.within)
+pub schedule_of-requires-clause-time : goal.schedule_of-requires-clause-time
+schedule_of-requires-clause-time c = c.in_ok-early.ensures.time
 
-pub planned-requires-clause-order : goal.planned-requires-clause-order
-planned-requires-clause-order c =
-    let moved : c.in_ok-moved.moved.items ≡ map (hastened c.in_ok-early.early.items) c.args.trips.now = rw c.deref.ensures.value at c.in_ok-moved.ensures in
-    rw c.deref-2.ensures.value (order_hastened _ _ _ moved c.requires.order)
+pub schedule_of-requires-2-clause-time : goal.schedule_of-requires-2-clause-time
+schedule_of-requires-2-clause-time c = none_in_time _ _ _ _ _ _ c.requires.within c.in_ok-none.ensures.none
 
-pub returns-clause-runs : goal.returns-clause-runs
-returns-clause-runs c =
-    let moved : c.in_ok-moved.moved.items ≡ map (hastened c.in_ok-early.early.items) c.args.trips.now = rw c.deref.ensures.value at c.in_ok-moved.ensures in
-    let runs = rw (c.deref-2.ensures.value, moved) at c.in_ok-plan.ensures.runs in
-    omega (arith, runs, runs_hastened c.args.d c.args.outs c.in_ok-early.early.items c.args.trips.now)
-
-pub returns-clause-delay : goal.returns-clause-delay
-returns-clause-delay c =
-    let moved : c.in_ok-moved.moved.items ≡ map (hastened c.in_ok-early.early.items) c.args.trips.now = rw c.deref.ensures.value at c.in_ok-moved.ensures in
-    let delay = rw (c.deref-2.ensures.value, moved) at c.in_ok-plan.ensures.delay in
-    omega (arith, delay, delay_hastened c.args.d c.args.ins c.in_ok-early.early.items c.args.trips.now)
-
-pub returns-clause-ages : goal.returns-clause-ages
-returns-clause-ages c =
-    let moved : c.in_ok-moved.moved.items ≡ map (hastened c.in_ok-early.early.items) c.args.trips.now = rw c.deref.ensures.value at c.in_ok-moved.ensures in
-    let ages = rw (c.deref-2.ensures.value, moved) at c.in_ok-plan.ensures.ages in
-    λ q all found. omega (arith, ages q all found, column_hastened c.args.d q c.in_ok-early.early.items c.args.trips.now)
+pub returns-clause-spare : goal.returns-clause-spare
+returns-clause-spare c = λ some.
+    let none = none_count c.in_ok-none.none.items c.in_ok-none.ensures.none in
+    let same : early_count c.in_ok-plain.plain.early.items ≡ 0 = rw c.in_ok-plain.ensures.same none in
+    absurd (omega (arith, some, same))

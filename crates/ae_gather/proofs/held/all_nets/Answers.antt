@@ -9,6 +9,7 @@ use Rattle.ae_moves.proofs.Held.{sum_more}
 use Rattle.ae_gather.specs.Held.{is_kept}
 use Rattle.ae_gather.proofs.Keeping.{kept_begin, kept_more, kept_whole}
 use Rattle.ae_gather.proofs.Memories.{sums_part}
+use Rattle.ae_gather.proofs.Counted.{counted_most, counted_none, counted_trans}
 use Rattle.ae_gather.proofs.held.all_nets.Goals as goal
 use Rattle.ae_clocked.proofs.InRow.{keeps_trans}
 
@@ -33,6 +34,7 @@ loop-q-init c =
       belongs = c.requires.belongs;
       keeps = keeps_same _;
       adds = adds_none _;
+      counted = counted_none _ _;
       kept = kept_begin _ _ _ _ _ _ _ _ (c.in_ok-extend_from_slice.ensures.items ∙ ap (λ (xs : List NetId). xs ++ c.args.ins.now) c.new-all.ensures.items);
     }
 
@@ -69,6 +71,8 @@ loop-q-preserved c =
       keeps = keeps_trans was.keeps more.keeps;
       adds = (let one = sum_more (λ (q : ℕ). cond (is_kept c.args.held.now q) 1 0) c.loop-q.q in
           adds_most _ (omega (arith, one)) (adds_trans was.adds more.adds));
+      counted = (let one = sum_more (λ (q : ℕ). cond (is_kept c.args.held.now q) 1 0) c.loop-q.q in
+          counted_most _ _ (omega (arith, one)) (omega (arith, one)) (counted_trans was.counted more.counted));
       kept = rw c.in_ok-push.ensures.items (kept_more c.loop-q.q _ _ _ _ _ _ _ _ _ _ more.adds.grows.extends was.kept (rw was.keeps.rst at more.keeps_word));
     }
 
@@ -77,6 +81,12 @@ returns-clause-adds c =
     let rest : c.loop-q.q + (length c.args.held.now - c.loop-q.q) ≡ length c.args.held.now = omega arith in
     let part = rw rest at (sums_part (λ (q : ℕ). cond (is_kept c.args.held.now q) 1 0) c.loop-q.q (length c.args.held.now - c.loop-q.q)) in
     adds_most _ (omega (arith, part)) c.loop-q.invariant.adds
+
+pub returns-clause-counted : goal.returns-clause-counted
+returns-clause-counted c =
+    let rest : c.loop-q.q + (length c.args.held.now - c.loop-q.q) ≡ length c.args.held.now = omega arith in
+    let part = rw rest at (sums_part (λ (q : ℕ). cond (is_kept c.args.held.now q) 1 0) c.loop-q.q (length c.args.held.now - c.loop-q.q)) in
+    counted_most _ _ part part c.loop-q.invariant.counted
 
 pub returns-clause-kept : goal.returns-clause-kept
 returns-clause-kept c = kept_whole c.loop-q.q _ _ _ _ _ _ _ _ (omega (arith, c.loop-q-test.false)) c.requires.long c.loop-q.invariant.kept

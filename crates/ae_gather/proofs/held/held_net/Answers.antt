@@ -61,3 +61,9 @@ hold-requires-clause-begins c = rw c.offset-begin.ensures (mod_below _ _ c.requi
 
 pub hold-requires-clause-within : goal.hold-requires-clause-within
 hold-requires-clause-within c = mod_below _ _ c.requires.lasting
+
+pub returns-clause-counted : goal.returns-clause-counted
+returns-clause-counted c = record {
+  registers = omega (arith, c.in_ok-counter.ensures.registers, c.in_ok-y.ensures.counted.registers);
+  tests = omega (arith, c.in_ok-counter.ensures.tests, c.in_ok-y.ensures.counted.tests);
+}

@@ -6,6 +6,7 @@ use Rattle.ae_netlist.specs.Runs.{InEveryResetRun}
 use Rattle.ae_clocked.specs.Signals.{Adds}
 use Rattle.ae_clocked.proofs.Adding.{net_added}
 use Rattle.ae_gather.specs.Held.{held_phase, Holds, IsHeld, Keeps}
+use Rattle.ae_gather.proofs.Counted.{counted_if}
 use Rattle.ae_gather.proofs.held.kept_net.Goals as goal
 
 keeps_held : (a b : Circuit) (held : Option ℕ) (most w rst period d arrival k x y : ℕ) → held ≡ Some k → Adds a b most 0 → IsNet a.cells x w
@@ -26,3 +27,6 @@ returns-clause-adds c = rw c.in-Some.is c.in_ok-y.ensures.adds
 
 pub returns-clause-keeps_word : goal.returns-clause-keeps_word
 returns-clause-keeps_word c = keeps_held _ _ _ _ _ _ _ _ _ _ _ _ c.in-Some.is c.in_ok-y.ensures.adds c.requires.net c.in_ok-y.ensures.held
+
+pub returns-clause-counted : goal.returns-clause-counted
+returns-clause-counted c = counted_if _ _ c.in-Some.is c.in_ok-y.ensures.counted

@@ -76,3 +76,40 @@ returns-in_err-next-clause-adds c =
 
 pub constant-requires-clause-fits : goal.constant-requires-clause-fits
 constant-requires-clause-fits c = rw (c.from.ensures, c.width_at-bits.ensures.width) c.requires.fits
+
+pub returns-clause-counted : goal.returns-clause-counted
+returns-clause-counted c = record {
+  registers = omega (
+    arith,
+    c.in_ok-begin.ensures.registers,
+    c.in_ok-begins.ensures.registers,
+    c.in_ok-y.ensures.registers,
+    c.in_ok-next.ensures.registers,
+    c.close.ensures.registers,
+  );
+  tests = omega (arith, c.in_ok-begin.ensures.tests, c.in_ok-begins.ensures.tests, c.in_ok-y.ensures.tests, c.in_ok-next.ensures.tests, c.close.ensures.tests);
+}
+
+pub returns-in_err-begin-clause-counted : goal.returns-in_err-begin-clause-counted
+returns-in_err-begin-clause-counted c = record {
+  registers = omega (arith, c.in_err-begin.ensures.registers);
+  tests = omega (arith, c.in_err-begin.ensures.tests);
+}
+
+pub returns-in_err-begins-clause-counted : goal.returns-in_err-begins-clause-counted
+returns-in_err-begins-clause-counted c = record {
+  registers = omega (arith, c.in_ok-begin.ensures.registers, c.in_err-begins.ensures.registers);
+  tests = omega (arith, c.in_ok-begin.ensures.tests, c.in_err-begins.ensures.tests);
+}
+
+pub returns-in_err-y-clause-counted : goal.returns-in_err-y-clause-counted
+returns-in_err-y-clause-counted c = record {
+  registers = omega (arith, c.in_ok-begin.ensures.registers, c.in_ok-begins.ensures.registers, c.in_err-y.ensures.registers);
+  tests = omega (arith, c.in_ok-begin.ensures.tests, c.in_ok-begins.ensures.tests, c.in_err-y.ensures.tests);
+}
+
+pub returns-in_err-next-clause-counted : goal.returns-in_err-next-clause-counted
+returns-in_err-next-clause-counted c = record {
+  registers = omega (arith, c.in_ok-begin.ensures.registers, c.in_ok-begins.ensures.registers, c.in_ok-y.ensures.registers, c.in_err-next.ensures.registers);
+  tests = omega (arith, c.in_ok-begin.ensures.tests, c.in_ok-begins.ensures.tests, c.in_ok-y.ensures.tests, c.in_err-next.ensures.tests);
+}

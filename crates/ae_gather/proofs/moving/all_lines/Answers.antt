@@ -11,6 +11,8 @@ use Rattle.ae_gather.specs.Columns.{net_of}
 use Rattle.ae_moves.proofs.Lists.{sum_next, sum_part}
 use Rattle.ae_gather.specs.Plans.{line_mems}
 use Rattle.ae_gather.proofs.Building.{lines_begin, lines_more, lines_whole}
+use Rattle.ae_gather.specs.Counts.{line_registers}
+use Rattle.ae_gather.proofs.Counted.{counted_most, counted_none}
 use Rattle.ae_gather.proofs.moving.all_lines.Goals as goal
 use Rattle.ae_clocked.proofs.InRow.{keeps_trans}
 
@@ -53,6 +55,7 @@ loop-q-init c =
       cells = omega arith;
       muls = refl;
       memories = omega arith;
+      counted = counted_none _ _;
       whole = λ h. h;
       lines = lines_begin _ _ _ _ (search rules);
     }
@@ -127,6 +130,10 @@ loop-q-preserved c =
       cells = omega (arith, was.cells, cost, sum_next line_cells c.args.ages.now c.loop-q.q _ there);
       muls = omega (arith, was.muls, more.muls);
       memories = omega (arith, was.memories, mems, sum_next line_mems c.args.ages.now c.loop-q.q _ there);
+      counted = (let registers = rw c.all.ensures at more.registers in record {
+        registers = omega (arith, was.counted.registers, registers, sum_next line_registers c.args.ages.now c.loop-q.q _ there);
+        tests = omega (arith, was.counted.tests, more.tests);
+      });
       whole = λ h. more.whole (was.whole h);
       lines = rw c.in_ok-push.ensures.items
           (lines_more c.loop-q.nl.cells c.ring_line.new.nl.cells _ _ x c.loop-q.q c.args.ins.now c.args.ages.now _ _ _ more.grows.extends was.lines there refl
@@ -135,6 +142,9 @@ loop-q-preserved c =
 
 pub returns-clause-cells : goal.returns-clause-cells
 returns-clause-cells c = omega (arith, c.loop-q.invariant.cells, sum_part line_cells c.args.ages.now c.loop-q.q)
+
+pub returns-clause-counted : goal.returns-clause-counted
+returns-clause-counted c = counted_most _ _ (sum_part line_registers c.args.ages.now c.loop-q.q) (omega arith) c.loop-q.invariant.counted
 
 pub returns-clause-lines : goal.returns-clause-lines
 returns-clause-lines c = lines_whole _ _ c.loop-q.q _ c.args.ages.now _ (omega (arith, c.loop-q-test.false)) c.loop-q.invariant.lines

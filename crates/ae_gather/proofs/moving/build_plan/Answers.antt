@@ -4,12 +4,12 @@ use Rattle.std.proofs.lemmas.Option.{slice_get_within}
 use Rattle.ae_netlist.proofs.Growing.{net_later}
 use Rattle.ae_clocked.specs.Delays.{line_cells}
 use Rattle.ae_clocked.proofs.Adding.{grows_trans}
-use Rattle.ae_clocked.proofs.Belonging.{belongs_grows}
 use Rattle.ae_gather.specs.Plans.{IsPlan, line_mems, steps_cells}
 use Rattle.ae_gather.proofs.Building.{begun_of, fitting_grows, steps_ready}
 use Rattle.ae_gather.proofs.Choosing.{phase_grows}
 use Rattle.ae_gather.proofs.Hastened.{clocks_hastened, fitting_hastened, used_hastened}
 use Rattle.ae_gather.proofs.Scheduled.{columns_trips, columns_nets, has_grows}
+use Rattle.ae_gather.proofs.Counted.{counted_most, counted_trans}
 use Rattle.ae_gather.proofs.moving.build_plan.Goals as goal
 use Rattle.ae_clocked.proofs.InRow.{keeps_trans}
 
@@ -153,19 +153,19 @@ all_columns-requires-clause-ready c = λ q w steps there wide.
     c.deref-4.result.now steps lines fitting below plan there wide)
 
 pub returns-in_err-out-clause-belongs : goal.returns-in_err-out-clause-belongs
-returns-in_err-out-clause-belongs c = belongs_grows _ _ _ c.in_err-out.ensures.adds.grows c.in_ok-lines.ensures.belongs
+returns-in_err-out-clause-belongs c = c.in_err-out.ensures.belongs
 
 pub returns-in_err-out-clause-keeps : goal.returns-in_err-out-clause-keeps
-returns-in_err-out-clause-keeps c = keeps_trans c.in_ok-counters.ensures.keeps c.in_ok-lines.ensures.keeps
+returns-in_err-out-clause-keeps c = keeps_trans (keeps_trans c.in_ok-counters.ensures.keeps c.in_ok-lines.ensures.keeps) c.in_err-out.ensures.keeps
 
 pub returns-in_err-out-clause-grows : goal.returns-in_err-out-clause-grows
 returns-in_err-out-clause-grows c = grows_trans c.in_ok-counters.ensures.adds.grows (grows_trans c.in_ok-lines.ensures.grows c.in_err-out.ensures.adds.grows)
 
 pub returns-clause-belongs : goal.returns-clause-belongs
-returns-clause-belongs c = belongs_grows _ _ _ c.in_ok-out.ensures.adds.grows c.in_ok-lines.ensures.belongs
+returns-clause-belongs c = c.in_ok-out.ensures.belongs
 
 pub returns-clause-keeps : goal.returns-clause-keeps
-returns-clause-keeps c = keeps_trans c.in_ok-counters.ensures.keeps c.in_ok-lines.ensures.keeps
+returns-clause-keeps c = keeps_trans (keeps_trans c.in_ok-counters.ensures.keeps c.in_ok-lines.ensures.keeps) c.in_ok-out.ensures.keeps
 
 pub returns-clause-grows : goal.returns-clause-grows
 returns-clause-grows c = grows_trans c.in_ok-counters.ensures.adds.grows (grows_trans c.in_ok-lines.ensures.grows c.in_ok-out.ensures.adds.grows)
@@ -193,3 +193,9 @@ returns-clause-trips c =
       ap length c.deref.ensures.value,
       ap length c.deref-4.ensures.value,
     ))))) columns
+
+pub returns-clause-counted : goal.returns-clause-counted
+returns-clause-counted c =
+    let lines = rw c.deref-2.ensures.value at c.in_ok-lines.ensures.counted in
+    let columns = rw (c.deref-4.ensures.value, c.deref-5.ensures.value) at c.in_ok-out.ensures.counted in
+    counted_most _ _ (omega arith) (omega arith) (counted_trans (counted_trans c.in_ok-counters.ensures.counted lines) columns)

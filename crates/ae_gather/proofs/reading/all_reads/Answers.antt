@@ -1,5 +1,9 @@
 -- One read more.
-use Rattle.std.proofs.Common.{ℕ, ◌+◌, ◌*◌, ◌<◌, ◌≤◌, length, arith}
+use Rattle.std.proofs.Common.{ℕ, ◌+◌, ◌*◌, ◌<◌, ◌≤◌, length, None, arith}
+use Rattle.std.proofs.lemmas.Option.{slice_get-get_or}
+use Rattle.ae_moves.proofs.Lists.{sum_next, sum_part}
+use Rattle.ae_gather.specs.Counts.{reader_registers}
+use Rattle.ae_gather.proofs.Counted.{counted_most, counted_trans}
 use Rattle.ae_clocked.proofs.Adding.{adds_most, adds_trans, net_added}
 use Rattle.ae_gather.proofs.Ringing.{reads_more, reads_whole, rings_grow}
 use Rattle.ae_gather.proofs.reading.all_reads.Goals as goal
@@ -13,12 +17,20 @@ loop-q-preserved c =
     let new = c.in_ok-net.ensures in
     record {
       adds = adds_most _ (omega arith) (adds_trans was.adds new.adds);
+      counted = (let own = slice_get-get_or c.args.reads.now.from.items c.loop-q.q None (omega (arith, c.loop-q-test.true, c.len-q-end.ensures)) in
+          counted_most _ _ (omega (arith, sum_next (reader_registers c.args.reads.now.rings.items) c.args.reads.now.from.items c.loop-q.q _ own)) (omega arith)
+          (counted_trans was.counted new.counted));
       reads = λ rst rings. rw c.in_ok-push.ensures.items (reads_more c.loop-q.q _ _ _ _ _ _ _ _ new.adds.grows.extends (was.reads rst rings)
           (new.reads rst (rings_grow was.adds.grows.extends rings)));
     }
 
 pub returns-clause-reads : goal.returns-clause-reads
 returns-clause-reads c = λ rst rings. reads_whole c.loop-q.q _ _ _ _ _ _ _ (omega (arith, c.loop-q-test.false)) (c.loop-q.invariant.reads rst rings)
+
+pub returns-clause-counted : goal.returns-clause-counted
+returns-clause-counted c =
+    counted_most _ _ (sum_part (reader_registers c.args.reads.now.rings.items) c.args.reads.now.from.items c.loop-q.q) (omega arith)
+    c.loop-q.invariant.counted
 
 read_room : (q n : ℕ) → q < n → 3 * q + 3 ≤ 3 * n
 read_room q n h = omega arith

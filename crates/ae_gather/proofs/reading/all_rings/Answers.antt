@@ -7,6 +7,7 @@ use Rattle.ae_clocked.proofs.Added.{own_net}
 use Rattle.ae_clocked.proofs.Making.{memories_most, memories_trans}
 use Rattle.ae_moves.proofs.Lists.{sum_next, sum_part}
 use Rattle.ae_gather.proofs.Ringing.{rings_more}
+use Rattle.ae_gather.proofs.Counted.{counted_trans}
 use Rattle.ae_gather.proofs.reading.all_rings.Goals as goal
 use Rattle.ae_clocked.proofs.InRow.{keeps_trans}
 
@@ -67,6 +68,7 @@ loop-q-preserved c =
       belongs = new.belongs;
       keeps = keeps_trans was.keeps new.keeps;
       adds = memories_most _ _ (omega (arith, more)) (omega (arith, more)) (memories_trans was.adds new.adds);
+      counted = counted_trans was.counted new.counted;
       rings = rw c.in_ok-push.ensures.items (rings_more c.loop-q.q _ _ _ _ _ _ _ has new.adds.grows.extends was.rings (rw was.keeps.rst at new.ring) new.has
           (get_or_from_slice_get c.args.reads.now.rings.items c.loop-q.q has false there));
     }

@@ -2,6 +2,7 @@
 use Rattle.std.proofs.Common.{ℕ, ◌≡◌, ◌<◌, ◌≤◌, ◌+◌, ◌*◌, ◌^◌, arith}
 use Rattle.ae_clocked.proofs.Adding.{grows_refl}
 use Rattle.ae_clocked.proofs.Belonging.{keeps_same}
+use Rattle.ae_gather.proofs.Counted.{counted_most, tests_few}
 use Rattle.ae_gather.proofs.reading.build_best.Goals as goal
 
 below_limit : (a b n : ℕ) → a < b → b ≤ n → a < n
@@ -236,3 +237,11 @@ returns-clause-nets c = c.in_ok-out-2.ensures.nets
 
 pub returns-clause-trips : goal.returns-clause-trips
 returns-clause-trips c = c.in_ok-out-2.ensures.trips
+
+pub returns-then-is_no_dearer-clause-counted : goal.returns-then-is_no_dearer-clause-counted
+returns-then-is_no_dearer-clause-counted c =
+    let n = c.is_no_dearer.ensures c.if-is_no_dearer.true in
+    counted_most _ _ n.counts.registers n.counts.tests c.in_ok-out.ensures.counted
+
+pub returns-clause-counted : goal.returns-clause-counted
+returns-clause-counted c = counted_most _ _ c.requires.spare (tests_few c.args.schedule.now.plan.columns.items) c.in_ok-out-2.ensures.counted

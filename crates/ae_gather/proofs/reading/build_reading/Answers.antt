@@ -295,3 +295,14 @@ returns-clause-trips c =
     trips_read _ _ c.args.period c.args.d c.args.arrival (length c.args.widths.now) c.args.reading.now.reads c.args.ins.now c.in_ok-places.places.items
     c.in_ok-all.all.items _ c.args.trips.now c.args.reading.now.places.items c.args.reading.now.trips.items h.taken
     (omega (arith, h.rings)) read h.places shows within made_trips
+
+pub returns-clause-counted : goal.returns-clause-counted
+returns-clause-counted c =
+    let rings = c.in_ok-rings.ensures.counted in
+    let places = c.in_ok-places.ensures.counted in
+    let reads = c.in_ok-all.ensures.counted in
+    let out = c.in_ok-out.ensures.counted in
+    record {
+      registers = omega (arith, rings.registers, places.registers, reads.registers, out.registers);
+      tests = omega (arith, rings.tests, places.tests, reads.tests, out.tests);
+    }

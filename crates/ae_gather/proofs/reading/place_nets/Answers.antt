@@ -3,11 +3,12 @@ use Rattle.std.proofs.Common.{ℕ, ◌≡◌, ◌+◌, ◌-◌, ◌%◌, ◌≤�
 use Rattle.std.proofs.lemmas.Option.{slice_get-get_or}
 use Rattle.ae_netlist.specs.declared.cell.NetId.{NetId}
 use Rattle.ae_clocked.proofs.Adding.{adds_most, adds_same, adds_trans}
-use Rattle.ae_clocked.proofs.Belonging.{belongs_grows}
+use Rattle.ae_clocked.proofs.InRow.{keeps_trans}
 use Rattle.ae_gather.proofs.Building.{begun_of, fitting_grows, steps_ready}
 use Rattle.ae_gather.proofs.Choosing.{phase_grows}
 use Rattle.ae_gather.proofs.Scheduled.{columns_nets}
 use Rattle.ae_gather.proofs.Showing.{fitting_places, no_lines, places_shown}
+use Rattle.ae_gather.proofs.Counted.{counted_most, counted_trans, none_count}
 use Rattle.ae_gather.proofs.reading.place_nets.Goals as goal
 
 pub all_columns-requires-clause-begun : goal.all_columns-requires-clause-begun
@@ -32,13 +33,13 @@ pub returns-in_err-phase-clause-keeps : goal.returns-in_err-phase-clause-keeps
 returns-in_err-phase-clause-keeps c = c.in_err-phase.ensures.keeps
 
 pub returns-in_err-out-clause-keeps : goal.returns-in_err-out-clause-keeps
-returns-in_err-out-clause-keeps c = c.in_ok-phase.ensures.keeps
+returns-in_err-out-clause-keeps c = keeps_trans c.in_ok-phase.ensures.keeps c.in_err-out.ensures.keeps
 
 pub returns-clause-keeps : goal.returns-clause-keeps
-returns-clause-keeps c = c.in_ok-phase.ensures.keeps
+returns-clause-keeps c = keeps_trans c.in_ok-phase.ensures.keeps c.in_ok-out.ensures.keeps
 
 pub returns-in_err-out-clause-belongs : goal.returns-in_err-out-clause-belongs
-returns-in_err-out-clause-belongs c = belongs_grows _ _ _ c.in_err-out.ensures.adds.grows c.in_ok-phase.ensures.belongs
+returns-in_err-out-clause-belongs c = c.in_err-out.ensures.belongs
 
 pub returns-in_err-out-clause-adds : goal.returns-in_err-out-clause-adds
 returns-in_err-out-clause-adds c = adds_trans c.in_ok-phase.ensures.adds (rw (c.deref.ensures.value, c.requires.columns) at c.in_err-out.ensures.adds)
@@ -47,7 +48,7 @@ pub returns-clause-adds : goal.returns-clause-adds
 returns-clause-adds c = adds_trans c.in_ok-phase.ensures.adds (rw (c.deref.ensures.value, c.requires.columns) at c.in_ok-out.ensures.adds)
 
 pub returns-clause-belongs : goal.returns-clause-belongs
-returns-clause-belongs c = belongs_grows _ _ _ c.in_ok-out.ensures.adds.grows c.in_ok-phase.ensures.belongs
+returns-clause-belongs c = c.in_ok-out.ensures.belongs
 
 pub returns-clause-nets : goal.returns-clause-nets
 returns-clause-nets c = λ q l.
@@ -84,3 +85,9 @@ returns-in_err-early-clause-adds c = adds_same _ _ _ refl
 
 pub returns-in_err-phase-clause-adds : goal.returns-in_err-phase-clause-adds
 returns-in_err-phase-clause-adds c = adds_most _ (counter_room _) c.in_err-phase.ensures.adds
+
+pub returns-clause-counted : goal.returns-clause-counted
+returns-clause-counted c =
+    let none = none_count c.in_ok-early.early.items c.in_ok-early.ensures.none in
+    let told = rw (c.deref.ensures.value, c.deref-3.ensures.value) at c.in_ok-out.ensures.counted in
+    counted_most _ _ (omega (arith, none)) (omega arith) (counted_trans c.in_ok-phase.ensures.counted told)

@@ -51,3 +51,9 @@ returns-clause-ring c =
         takes = every_from _ _ _ c.in_ok-memory.ensures.store;
       };
     }
+
+pub returns-clause-counted : goal.returns-clause-counted
+returns-clause-counted c = record {
+  registers = omega (arith, c.in_ok-counter.ensures.registers, c.in_ok-memory.ensures.registers);
+  tests = omega (arith, c.in_ok-counter.ensures.tests, c.in_ok-memory.ensures.tests);
+}

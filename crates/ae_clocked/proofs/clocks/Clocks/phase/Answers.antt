@@ -24,7 +24,7 @@ returns-clause-belongs c =
     rw (← rst)
     (counter_made _ _ _ _ _ _ _ _ _ c.from.ensures c.from-2.ensures c.requires.low c.width_for-width.ensures.holds c.in_ok-net.ensures.net
     c.in_ok-net.ensures.words) in
-    belongs_more c.args.self.now c.keep.new.self _ _ _ c.in_ok-keep.ensures.rst c.in_ok-keep.ensures.kept
+    belongs_more c.args.self.now c.keep.new.self _ _ _ c.in_ok-keep.ensures.rst c.in_ok-keep.ensures.marks c.in_ok-keep.ensures.kept
     (belongs_grows _ _ _ c.in_ok-net.ensures.adds.grows c.requires.belongs) made
 
 pub counter-requires-clause-rst : goal.counter-requires-clause-rst

@@ -8,7 +8,7 @@ use Rattle.ae_moves.specs.Origins.{Move, move_trips}
 use Rattle.ae_gather.specs.Gathers.{AreWidths, move_of}
 use Rattle.ae_gather.specs.Joins.{AreJoined}
 use Rattle.ae_moves.proofs.Words.{columns_small, trips_few, latency_small}
-use Rattle.ae_gather.proofs.CodeLaws.{cells_as, columns_pos, firsts_at, law_as, mems_as, nets_few, nets_long, used_as, within_as}
+use Rattle.ae_gather.proofs.CodeLaws.{cells_as, columns_pos, counted_as, firsts_at, law_as, mems_as, nets_few, nets_long, used_as, within_as}
 use Rattle.ae_gather.proofs.GatherLaw.{fitting, flat_nets, out_nets}
 use Rattle.ae_gather.proofs.Typed.{in_order}
 use Rattle.ae_gather.proofs.stage.GatherStage.build.Goals as goal
@@ -154,3 +154,14 @@ returns-clause-memories c =
     let d = rw (c.deref-4.ensures.value, c.deref-5.ensures.value) at c.latency-d.ensures in
     let nets = ap length c.deref-6.ensures.value ∙ nets_long _ (map st_tree c.self.inside.ins.items) c.args.ins.now _ _ made c.in_ok-joined.ensures.joined in
     rw (← c.self.view_is) (mems_as m c.deref-8.result.now _ _ _ _ _ c.time-period.ensures d nets trips c.in_ok-nets.ensures.memories)
+
+pub returns-clause-counted : goal.returns-clause-counted
+returns-clause-counted c =
+    let m : Move = move_of (record { ins = c.self.inside.ins.items; out = c.self.inside.out; origins = map origin_tree c.self.inside.source.items }) in
+    let made = rw (← c.self.view_is) at c.requires.bundles in
+    let trips : map trip_tree c.deref-8.result.now ≡ move_trips m = rw c.deref-8.ensures.value
+    (rw (c.deref.ensures.value, c.deref-3.ensures.value) at c.in_ok-trips.ensures) in
+    let d = rw (c.deref-4.ensures.value, c.deref-5.ensures.value) at c.latency-d.ensures in
+    let nets = ap length c.deref-6.ensures.value ∙ nets_long _ (map st_tree c.self.inside.ins.items) c.args.ins.now _ _ made c.in_ok-joined.ensures.joined in
+    let widths = ap length c.deref-7.ensures.value ∙ c.in_ok-widths.ensures.long in
+    rw (← c.self.view_is) (counted_as m c.deref-8.result.now _ _ _ _ _ _ _ _ c.time-period.ensures d nets widths trips c.in_ok-nets.ensures.counted)
