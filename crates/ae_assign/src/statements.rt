@@ -16,7 +16,7 @@ ghost use Rattle.ae_runs.specs.Named.{AreNamed, AreNets, IsNamed, IsReady, read}
 ghost use Rattle.ae_order.specs.Sound.{IsReadyFor, IsSound};
 ghost use Rattle.ae_assign.specs.Edges.{Acts, AreFresh, FitNexts, IsActed, IsAddressWord, IsGuard, IsGuardNet, IsReadyStmt, IsSoFar, IsSoundStmt, IsWordNext, OthersKeep};
 
-use ae_express::{address, given_word, lower, name_width, net_of, own_width};
+use ae_express::{address, given_word, name_width, net_of, own_word};
 use ae_gates::{fixed, gate, is_zero, select};
 use ae_judge::Names;
 use ae_netlist::{NetId, Netlist};
@@ -60,8 +60,7 @@ fn fails(
     ensures net { IfOk result (λ y. IsNet nl.new.cells y.0 1) }
     ensures word { IfOk result (λ y. (at : List ℕ → ℕ) → AreNamed names.now nets.now at → IsWord from nl.new.cells y.0 1 (λ run t. bit (own_value names.now (read at run t) (expr_tree test.now) == 0))) }
 {
-    let own = own_width(names, test);
-    let x = lower(nl, from, names, nets, own, test)?;
+    let (x, own) = own_word(nl, from, names, nets, test)?;
     let y = is_zero(nl, from, x, own)?;
     Ok(y)
 }
@@ -227,8 +226,7 @@ fn written_at(
     match place_number(at) {
         Some(k) => address(nl, from, k),
         None => {
-            let own = own_width(names, at);
-            let y = lower(nl, from, names, nets, own, at)?;
+            let (y, _own) = own_word(nl, from, names, nets, at)?;
             Ok(y)
         }
     }

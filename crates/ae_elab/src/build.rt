@@ -74,8 +74,8 @@ fn ordered(alloc: Global, names: &Names<'_>, m: &VModule) -> Result<Netlist, Ela
 /// The netlist of a module: it has the module's runs, whatever the order of the items. Its inputs are the module's but
 /// the clock, and its outputs the module's, both in port order and as plain ports. Ok exactly where the module is well
 /// formed; else its first fault, in the order of `ElabFault`, or `Memory` where memory ran out. At most 8 cells for each
-/// unit of weight. The time is linear in the module, but that widths are added up once for each comparison, test, shift
-/// and concatenation that they stand in. The rules are those of docs/VERILOG.md.
+/// unit of weight. The time is linear in the module, as long as each name is found in time linear in it. The rules are
+/// those of docs/VERILOG.md.
 pub fn elaborate(alloc: Global, m: &VModule) -> Result<Netlist, ElabFault>
     requires spelled { (text : List ℕ) × (length text < 2 ^ 32) × Spells text (module_tree m.now) }
     ensures well_formed { OnOk result (IsWellFormed (module_tree m.now)) }

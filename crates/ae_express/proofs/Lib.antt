@@ -3,3 +3,4 @@ pub mod CompareLaws
 mod Arms
 mod Lowered
 mod PartLaws
+pub mod AskedLaws

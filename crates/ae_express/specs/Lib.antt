@@ -2,4 +2,5 @@ pub use Rattle.ae_gates.specs.Cells
 pub mod Forms
 pub mod Parts
 pub mod Lowered
+pub mod Asked
 pub mod ConstantValue

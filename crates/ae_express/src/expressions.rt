@@ -1,6 +1,6 @@
 // Expressions as cells.
 
-ghost use Rattle.std.specs.Prelude.{◌≡◌, ◌≤◌, ◌+◌, ◌*◌, length, IfOk, map};
+ghost use Rattle.std.specs.Prelude.{◌≡◌, ◌≤◌, ◌+◌, ◌*◌, ◌++◌, length, IfOk, OnOk, map};
 ghost use Rattle.std.specs.List.{sum_by};
 ghost use Rattle.ae_vread.specs.ModuleTree.{unary};
 ghost use Rattle.ae_vread.specs.View.{expr_tree};
@@ -8,12 +8,14 @@ ghost use Rattle.ae_vread.specs.Reading.{concat_of};
 ghost use Rattle.ae_judge.specs.Widths.{own_width};
 ghost use Rattle.ae_judge.specs.Weight.{expr_weight};
 ghost use Rattle.ae_gates.specs.Cells.{HasRoom};
+ghost use Rattle.ae_express.specs.Asked.{EndsWith, part_widths};
 ghost use Rattle.ae_express.specs.Lowered.{IsLowered};
 ghost use Rattle.ae_runs.specs.Named.{AreNets};
 ghost use Rattle.ae_order.specs.Sound.{IsReadyFor, IsSound};
 ghost use Rattle.ae_express.specs.Parts.{part_weight};
 
 use crate::forms::{combine, fixed_shift, operand_widths};
+use crate::measure::last_width;
 use crate::own::own_width;
 use crate::reads::{read_name, read_part, read_place, read_word};
 use ae_gates::{chosen, fixed, gate, is_zero, linked, moved_by, widen};
@@ -33,6 +35,7 @@ pub fn lower(
     from: u32,
     names: &Names<'_>,
     nets: &[Option<NetId>],
+    widths: &mut Vec<u32>,
     w: u32,
     e: &Expr,
 ) -> Result<NetId, AllocError>
@@ -44,7 +47,9 @@ pub fn lower(
     requires high { w ≤ 64 }
     requires within { own_width names.now (expr_tree e.now) ≤ w }
     requires room { HasRoom nl.old (8 * expr_weight (expr_tree e.now) + 1) }
-    ensures { IfOk result (λ y. IsLowered from names.now nets.now nl.old nl.new (8 * expr_weight (expr_tree e.now) + 1) y.0 w (expr_tree e.now)) }
+    requires widths { EndsWith widths.old.items (part_widths names.now (expr_tree e.now)) }
+    ensures widths { OnOk result (widths.old.items ≡ widths.new.items ++ part_widths names.now (expr_tree e.now)) }
+    ensures lowered { IfOk result (λ y. IsLowered from names.now nets.now nl.old nl.new (8 * expr_weight (expr_tree e.now) + 1) y.0 w (expr_tree e.now)) }
 {
     match e {
         Expr::Name(name) => read_name(nl, from, names, nets, w, name),
@@ -55,32 +60,32 @@ pub fn lower(
             Some(k) => read_place(nl, from, names, nets, w, name, k),
             None => {
                 let own = own_width(names, at);
-                let x = lower(nl, from, names, nets, own, at)?;
+                let x = lower(nl, from, names, nets, widths, own, at)?;
                 read_word(nl, from, names, nets, w, name, x, own)
             }
         },
-        Expr::Unary(op, a) => lower_unary(nl, from, names, nets, w, *op, a),
+        Expr::Unary(op, a) => lower_unary(nl, from, names, nets, widths, w, *op, a),
         Expr::Binary(op, a, b) => match fixed_shift(*op, b) {
             Some((way, places)) => {
-                let x = lower(nl, from, names, nets, w, a)?;
+                let x = lower(nl, from, names, nets, widths, w, a)?;
                 moved_by(nl, from, way, x, places, w)
             }
             None => {
                 let (wa, wb) = operand_widths(names, *op, w, a, b);
-                let x = lower(nl, from, names, nets, wa, a)?;
-                let y = lower(nl, from, names, nets, wb, b)?;
+                let x = lower(nl, from, names, nets, widths, wa, a)?;
+                let y = lower(nl, from, names, nets, widths, wb, b)?;
                 combine(nl, from, *op, w, x, wa, y, wb)
             }
         },
         Expr::Choose(test, a, b) => {
             let own = own_width(names, test);
-            let t = lower(nl, from, names, nets, own, test)?;
-            let x = lower(nl, from, names, nets, w, a)?;
-            let y = lower(nl, from, names, nets, w, b)?;
+            let t = lower(nl, from, names, nets, widths, own, test)?;
+            let x = lower(nl, from, names, nets, widths, w, a)?;
+            let y = lower(nl, from, names, nets, widths, w, b)?;
             chosen(nl, from, t, own, x, y, w)
         }
         Expr::Concat(parts) => {
-            let (x, own) = lower_parts(nl, from, names, nets, parts)?;
+            let (x, own) = lower_parts(nl, from, names, nets, widths, parts)?;
             widen(nl, from, x, own, w)
         }
     }
@@ -94,6 +99,7 @@ fn lower_unary(
     from: u32,
     names: &Names<'_>,
     nets: &[Option<NetId>],
+    widths: &mut Vec<u32>,
     w: u32,
     op: UnOp,
     a: &Expr,
@@ -106,17 +112,19 @@ fn lower_unary(
     requires high { w ≤ 64 }
     requires within { own_width names.now (unary op (expr_tree a.now)) ≤ w }
     requires room { HasRoom nl.old (8 * expr_weight (unary op (expr_tree a.now)) + 1) }
-    ensures { IfOk result (λ y. IsLowered from names.now nets.now nl.old nl.new (8 * expr_weight (unary op (expr_tree a.now)) + 1) y.0 w (unary op (expr_tree a.now))) }
+    requires widths { EndsWith widths.old.items (part_widths names.now (unary op (expr_tree a.now))) }
+    ensures widths { OnOk result (widths.old.items ≡ widths.new.items ++ part_widths names.now (unary op (expr_tree a.now))) }
+    ensures lowered { IfOk result (λ y. IsLowered from names.now nets.now nl.old nl.new (8 * expr_weight (unary op (expr_tree a.now)) + 1) y.0 w (unary op (expr_tree a.now))) }
 {
     match op {
         UnOp::Not => {
             let own = own_width(names, a);
-            let x = lower(nl, from, names, nets, own, a)?;
+            let x = lower(nl, from, names, nets, widths, own, a)?;
             let zero = is_zero(nl, from, x, own)?;
             widen(nl, from, zero, 1, w)
         }
         UnOp::Flip => {
-            let x = lower(nl, from, names, nets, w, a)?;
+            let x = lower(nl, from, names, nets, widths, w, a)?;
             gate(nl, from, WordOp::Not, x, x, w, w)
         }
     }
@@ -130,6 +138,7 @@ fn lower_parts(
     from: u32,
     names: &Names<'_>,
     nets: &[Option<NetId>],
+    widths: &mut Vec<u32>,
     parts: &[Expr],
 ) -> Result<(NetId, u32), AllocError>
     requires from { from ≤ length nl.old.cells }
@@ -137,16 +146,18 @@ fn lower_parts(
     requires sound { IsSound names.now (concat_of (map expr_tree parts.now)) }
     requires ready { IsReadyFor names.now nets.now (concat_of (map expr_tree parts.now)) }
     requires room { HasRoom nl.old (8 * sum_by part_weight (map expr_tree parts.now)) }
+    requires widths { EndsWith widths.old.items (part_widths names.now (concat_of (map expr_tree parts.now))) }
+    ensures widths { OnOk result (widths.old.items ≡ widths.new.items ++ part_widths names.now (concat_of (map expr_tree parts.now))) }
     ensures own { IfOk result (λ r. r.1 ≡ own_width names.now (concat_of (map expr_tree parts.now))) }
     ensures lowered { IfOk result (λ r. IsLowered from names.now nets.now nl.old nl.new (8 * sum_by part_weight (map expr_tree parts.now)) r.0.0 r.1 (concat_of (map expr_tree parts.now))) }
 {
     let first = &parts[0];
-    let mut own = own_width(names, first);
-    let mut x = lower(nl, from, names, nets, own, first)?;
+    let mut own = last_width(widths);
+    let mut x = lower(nl, from, names, nets, widths, own, first)?;
     for k in 1..parts.len() {
         let part = &parts[k];
-        let wide = own_width(names, part);
-        let low = lower(nl, from, names, nets, wide, part)?;
+        let wide = last_width(widths);
+        let low = lower(nl, from, names, nets, widths, wide, part)?;
         x = linked(nl, from, x, own, low, wide)?;
         own += wide;
     }

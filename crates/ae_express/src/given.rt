@@ -8,24 +8,63 @@ ghost use Rattle.ae_judge.specs.Widths.{own_width};
 ghost use Rattle.ae_runs.specs.Named.{AreNamed, AreNets, read};
 ghost use Rattle.ae_order.specs.Sound.{IsReadyFor, IsSound};
 ghost use Rattle.ae_gates.specs.Cells.{Grows, HasRoom, IsWord};
-ghost use Rattle.ae_express.specs.Lowered.{fitted};
+ghost use Rattle.ae_express.specs.Lowered.{IsLowered, fitted};
 
 use crate::expressions::lower;
-use crate::own::own_width;
+use crate::measure::measure;
 use ae_gates::fit;
 use ae_judge::Names;
 use ae_netlist::{NetId, Netlist};
 use ae_vread::Expr;
 use std::alloc::AllocError;
 
-/// The width at which an expression is computed for a target of a width: the greater of both.
-fn given_width(names: &Names<'_>, width: u32, e: &Expr) -> u32
+/// Cells of an expression that is computed at its own width, or at `least` where that is greater, and this width: at most 8
+/// for each unit of weight, and one more.
+fn lower_at_least(
+    nl: &mut Netlist,
+    from: u32,
+    names: &Names<'_>,
+    nets: &[Option<NetId>],
+    least: u32,
+    e: &Expr,
+) -> Result<(NetId, u32), AllocError>
+    requires from { from ≤ length nl.old.cells }
+    requires nets { AreNets names.now nets.now nl.old.cells }
     requires sound { IsSound names.now (expr_tree e.now) }
-    requires high { width ≤ 64 }
-    ensures given { result ≡ max (own_width names.now (expr_tree e.now)) width }
-    ensures high { result ≤ 64 }
+    requires ready { IsReadyFor names.now nets.now (expr_tree e.now) }
+    requires low { 1 ≤ least }
+    requires high { least ≤ 64 }
+    requires room { HasRoom nl.old (8 * expr_weight (expr_tree e.now) + 1) }
+    ensures width { IfOk result (λ r. r.1 ≡ max (own_width names.now (expr_tree e.now)) least) }
+    ensures high { IfOk result (λ r. r.1 ≤ 64) }
+    ensures lowered { IfOk result (λ r. IsLowered from names.now nets.now nl.old nl.new (8 * expr_weight (expr_tree e.now) + 1) r.0.0 r.1 (expr_tree e.now)) }
 {
-    own_width(names, e).max(width)
+    let mut widths = Vec::new(names.alloc());
+    let own = measure(names, e, &mut widths)?;
+    let wide = own.max(least);
+    let x = lower(nl, from, names, nets, &mut widths, wide, e)?;
+    Ok((x, wide))
+}
+
+/// Cells of an expression that is computed at its own width, and this width: at most 8 for each unit of weight, and one more.
+pub fn own_word(
+    nl: &mut Netlist,
+    from: u32,
+    names: &Names<'_>,
+    nets: &[Option<NetId>],
+    e: &Expr,
+) -> Result<(NetId, u32), AllocError>
+    requires from { from ≤ length nl.old.cells }
+    requires nets { AreNets names.now nets.now nl.old.cells }
+    requires sound { IsSound names.now (expr_tree e.now) }
+    requires ready { IsReadyFor names.now nets.now (expr_tree e.now) }
+    requires room { HasRoom nl.old (8 * expr_weight (expr_tree e.now) + 1) }
+    ensures own { IfOk result (λ r. r.1 ≡ own_width names.now (expr_tree e.now)) }
+    ensures low { IfOk result (λ r. 1 ≤ r.1) }
+    ensures high { IfOk result (λ r. r.1 ≤ 64) }
+    ensures lowered { IfOk result (λ r. IsLowered from names.now nets.now nl.old nl.new (8 * expr_weight (expr_tree e.now) + 1) r.0.0 r.1 (expr_tree e.now)) }
+{
+    lower_at_least(nl, from, names, nets, 1, e)
 }
 
 /// What an expression gives a target of a width: computed at the greater of both widths, and cut to the target's. At most
@@ -51,8 +90,7 @@ pub fn given_word(
     ensures net { IfOk result (λ y. IsNet nl.new.cells y.0 width) }
     ensures word { IfOk result (λ y. (at : List ℕ → ℕ) → AreNamed names.now nets.now at → IsWord from nl.new.cells y.0 width (λ run t. fitted names.now (read at run t) width (expr_tree e.now))) }
 {
-    let wide = given_width(names, width, e);
-    let x = lower(nl, from, names, nets, wide, e)?;
+    let (x, wide) = lower_at_least(nl, from, names, nets, width, e)?;
     let y = fit(nl, from, x, wide, width)?;
     Ok(y)
 }

@@ -4,10 +4,10 @@
 mod expressions;
 mod forms;
 mod given;
+mod measure;
 mod own;
 mod reads;
 
-pub use expressions::lower;
-pub use given::given_word;
-pub use own::{name_width, own_width};
+pub use given::{given_word, own_word};
+pub use own::name_width;
 pub use reads::{address, net_of};

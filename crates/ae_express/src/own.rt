@@ -23,7 +23,7 @@ pub fn name_width(names: &Names<'_>, name: &str) -> u32
 }
 
 /// The width of one bit or one word of a name.
-fn index_width(names: &Names<'_>, name: &str) -> u32
+pub fn index_width(names: &Names<'_>, name: &str) -> u32
     requires named { IsNamed names.now name.now }
     ensures width { result ≡ (if is_memory_name names.now name.now then declared_width names.now name.now else 1) }
     ensures low { 1 ≤ result }

@@ -65,6 +65,11 @@ impl<'m> Names<'m> {
         })
     }
 
+    /// The allocator that it was made with.
+    pub fn alloc(&self) -> Global {
+        self.places.alloc()
+    }
+
     /// How names are hashed: behind all of these.
     pub fn keyed(&self) -> Keyed {
         self.places.keyed()

@@ -42,6 +42,11 @@ impl<'m> Places<'m> {
         })
     }
 
+    /// The allocator that it was made with.
+    pub fn alloc(&self) -> Global {
+        *self.first.allocator()
+    }
+
     /// How its names are hashed.
     pub fn keyed(&self) -> Keyed {
         *self.first.hasher()

@@ -8,5 +8,5 @@ use Rattle.ae_assign.proofs.statements.fails.Goals as goal
 
 pub returns-clause-word : goal.returns-clause-word
 returns-clause-word c = λ at n.
-    same_word _ _ (λ run t. ap (λ w. bit (value_at c.args.names.now (read at run t) w (expr_tree c.args.test.now) == 0)) c.own_width-own.ensures.own)
-    (c.in_ok-y.ensures.word _ (c.in_ok-x.ensures.word at n))
+    same_word _ _ (λ run t. ap (λ w. bit (value_at c.args.names.now (read at run t) w (expr_tree c.args.test.now) == 0)) c.in_ok-x.ensures.own)
+    (c.in_ok-y.ensures.word _ (c.in_ok-x.ensures.lowered.word at n))

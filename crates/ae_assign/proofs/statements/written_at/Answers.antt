@@ -11,5 +11,5 @@ returns-in_ok-y-in-None-clause-address c =
     let ns = c.args.names.now in
     let at = expr_tree c.args.at.now in
     let v = subst (λ b. IsSoundIndex b ns c.args._name.now (place_number at) (own_width ns at) (IsSound ns at)) c.in-None.ensures.none c.requires.sound.1 in
-    varying_address c.lower.new.nl.cells c.in_ok-y-in-None.y.0 c.own_width-own.result (depth_of ns c.args._name.now) c.in_ok-y-in-None.ensures.net
-    (rw c.own_width-own.ensures.own v.inside)
+    varying_address c.own_word.new.nl.cells c.in_ok-y-in-None.y.0 c.in_ok-y-in-None._own (depth_of ns c.args._name.now) c.in_ok-y-in-None.ensures.lowered.net
+    (rw c.in_ok-y-in-None.ensures.own v.inside)

@@ -8,7 +8,7 @@ use Rattle.ae_express.proofs.given.given_word.Goals as goal
 
 pub returns-clause-word : goal.returns-clause-word
 returns-clause-word c = λ at named.
-    let wide : c.given_width-wide.result ≡ max (own_width c.args.names.now (expr_tree c.args.e.now)) c.args.width = c.given_width-wide.ensures.given in
+    let wide : c.in_ok-x.wide ≡ max (own_width c.args.names.now (expr_tree c.args.e.now)) c.args.width = c.in_ok-x.ensures.width in
     subst (λ (w : ℕ). IsWord c.args.from c.fit.new.nl.cells c.in_ok-y.y.0 c.args.width
     (λ run t. value_at c.args.names.now (read at run t) w (expr_tree c.args.e.now) % 2 ^ c.args.width)) wide
-    (c.in_ok-y.ensures.word _ (c.in_ok-x.ensures.word at named))
+    (c.in_ok-y.ensures.word _ (c.in_ok-x.ensures.lowered.word at named))
