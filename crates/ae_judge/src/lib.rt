@@ -3,7 +3,6 @@
 
 mod fault;
 mod judging;
-mod keyed;
 mod kinds;
 mod names;
 mod places;

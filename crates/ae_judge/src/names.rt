@@ -7,8 +7,8 @@ ghost use Rattle.ae_judge.specs.Names.{net_named, is_input_name, is_wire_name, i
 ghost use Rattle.ae_judge.specs.Judging.{first_again};
 ghost use Rattle.ae_judge.specs.Widths.{declared_width};
 
-use crate::keyed::Keyed;
 use crate::places::Places;
+use ae_keyed::Keyed;
 use ae_vread::{NetKind, VNet};
 use std::alloc::{AllocError, Global};
 use std::marker::Model;
@@ -47,12 +47,21 @@ fn noted(again: Option<u32>, there: bool, item: u32) -> Option<u32>
     }
 }
 
+/// What names are hashed behind: all of them.
+fn keyed_by(nets: &[VNet]) -> Keyed {
+    let mut keyed = Keyed::behind(&[]);
+    for net in nets {
+        keyed.pass(net.name.as_bytes());
+    }
+    keyed
+}
+
 impl<'m> Names<'m> {
     /// A table of these nets, in time linear in their names.
     pub fn of(alloc: Global, nets: &'m [VNet]) -> Result<Names<'m>, AllocError>
         ensures { IfOk result (λ t. t ≡ map net_tree nets.now) }
     {
-        let mut places = Places::with_room(alloc, Keyed::behind(nets), nets.len())?;
+        let mut places = Places::with_room(alloc, keyed_by(nets), nets.len())?;
         let mut again = None;
         'net: for place in 0..nets.len() {
             let there = places.put(nets[place].name.as_str(), place)?;
@@ -177,25 +186,38 @@ impl<'m> Names<'m> {
 pub fn is_input_kind(kind: NetKind) -> bool
     ensures { result ≡ is_input_kind kind }
 {
-    matches!(kind, NetKind::Input)
+    match kind {
+        NetKind::Input => true,
+        NetKind::Wire | NetKind::OutWire | NetKind::Reg | NetKind::OutReg | NetKind::Memory(_) =>
+            false,
+    }
 }
 
 pub fn is_wire_kind(kind: NetKind) -> bool
     ensures { result ≡ is_wire_kind kind }
 {
-    matches!(kind, NetKind::Wire | NetKind::OutWire)
+    match kind {
+        NetKind::Wire | NetKind::OutWire => true,
+        NetKind::Input | NetKind::Reg | NetKind::OutReg | NetKind::Memory(_) => false,
+    }
 }
 
 pub fn is_register_kind(kind: NetKind) -> bool
     ensures { result ≡ is_register_kind kind }
 {
-    matches!(kind, NetKind::Reg | NetKind::OutReg)
+    match kind {
+        NetKind::Reg | NetKind::OutReg => true,
+        NetKind::Input | NetKind::Wire | NetKind::OutWire | NetKind::Memory(_) => false,
+    }
 }
 
 pub fn is_memory_kind(kind: NetKind) -> bool
     ensures { result ≡ is_memory_kind kind }
 {
-    matches!(kind, NetKind::Memory(_))
+    match kind {
+        NetKind::Memory(_) => true,
+        NetKind::Input | NetKind::Wire | NetKind::OutWire | NetKind::Reg | NetKind::OutReg => false,
+    }
 }
 
 /// How many words a memory has.
@@ -204,6 +226,6 @@ pub fn depth_of_kind(kind: NetKind) -> u32
 {
     match kind {
         NetKind::Memory(depth) => depth,
-        _ => 0,
+        NetKind::Input | NetKind::Wire | NetKind::OutWire | NetKind::Reg | NetKind::OutReg => 0,
     }
 }

@@ -3,7 +3,7 @@
 ghost use Rattle.std.specs.Prelude.{◌≡◌, [], IfOk, OnOk, is_some};
 ghost use Rattle.ae_judge.specs.Places.{place_in, with_place};
 
-use crate::keyed::Keyed;
+use ae_keyed::Keyed;
 use indexmap::IndexMap;
 use std::alloc::{AllocError, Global};
 use std::marker::Model;

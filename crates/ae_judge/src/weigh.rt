@@ -23,7 +23,9 @@ fn operator_weight(op: BinOp, amount: &Expr) -> u32
 {
     match op {
         BinOp::Shl | BinOp::Shr => shift_weight(amount),
-        _ => 1,
+        BinOp::Mul | BinOp::Add | BinOp::Sub => 1,
+        BinOp::Lt | BinOp::Le | BinOp::Gt | BinOp::Ge | BinOp::Eq | BinOp::Ne => 1,
+        BinOp::And | BinOp::Xor | BinOp::Or | BinOp::Both | BinOp::Either => 1,
     }
 }
 

@@ -3,7 +3,7 @@
 ghost use Rattle.std.specs.Prelude.{◌≡◌, [], ◌∷◌, ◌++◌, None, OnOk, length};
 ghost use Rattle.ae_vcd.specs.Codes.{place};
 
-use crate::keyed::Keyed;
+use ae_keyed::Keyed;
 use indexmap::IndexMap;
 use std::alloc::{AllocError, Global};
 use std::marker::Model;

@@ -7,7 +7,7 @@ ghost use Rattle.ae_vcd.specs.Forms.{Variable, agrees};
 ghost use Rattle.ae_vcd.specs.Held.{Declares, HasNumber, HasWidth, IsNew};
 
 use crate::codes::Codes;
-use crate::keyed::Keyed;
+use ae_keyed::Keyed;
 use std::alloc::{AllocError, Global};
 
 /// The variables that a header has declared.

@@ -5,7 +5,6 @@ mod body;
 mod codes;
 mod expected;
 mod header;
-mod keyed;
 mod laws;
 mod read;
 mod reader;

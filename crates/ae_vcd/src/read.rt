@@ -12,10 +12,10 @@ ghost use Rattle.ae_vcd.specs.Reads.{EndsIn, size_of_wave};
 use crate::body::Recorded;
 use crate::expected::Expected;
 use crate::header::Declared;
-use crate::keyed::Keyed;
 use crate::reader::Reader;
 use crate::wave::{SIZE_LIMIT, Wave};
 use crate::words::next_word;
+use ae_keyed::Keyed;
 use std::alloc::Global;
 
 /// Why a text has no wave.

@@ -9,8 +9,8 @@ ghost use Rattle.ae_vcd.specs.Held.{Answers, Follows, IsReader, is_marked, is_pa
 use crate::body::Recorded;
 use crate::expected::{Expected, behind};
 use crate::header::Declared;
-use crate::keyed::Keyed;
 use crate::shapes::{binary, fits, is_code, is_comment, is_end, is_name, is_silent, time};
+use ae_keyed::Keyed;
 use std::alloc::{AllocError, Global};
 
 // The word that the digit of a bit gives.
