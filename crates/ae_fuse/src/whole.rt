@@ -1,13 +1,13 @@
 // A movement program as one move for each result.
 
 ghost use Rattle.std.specs.Prelude.{◌≡◌, ◌-◌, ◌<◌, ◌≤◌, ◌↔◌, ℕ, [], true, length, IfOk, IfSome, IsSome, Some, slice_get};
-ghost use Rattle.ae_seq.specs.ProgramTree.{func_tree, node_tree, op_tree, program_tree};
+ghost use Rattle.ae_seq.specs.ProgramTree.{func_tree, node_tree, program_tree};
 ghost use Rattle.ae_eval.specs.Stack.{IsTyped};
 ghost use Rattle.ae_rewrite.specs.Interface.{main_of};
 ghost use Rattle.ae_rewrite.specs.Scheduled.{IsSchedule};
 ghost use Rattle.ae_rewrite.specs.Sound.{IsSound};
 ghost use Rattle.ae_rewrite.specs.StProgramTree.{st_func_tree, st_func_trees, st_trees};
-ghost use Rattle.ae_trace.specs.Traces.{are_movements, is_movement, is_movement_op};
+ghost use Rattle.ae_trace.specs.Traces.{are_movements, is_movement};
 ghost use Rattle.ae_tidy.specs.Places.{AreMarks};
 ghost use Rattle.ae_fuse.specs.Fused.{IsFusedBy, IsFusedOf, IsMovable};
 ghost use Rattle.ae_fuse.specs.Slowdowns.{IsMovableMain};
@@ -22,9 +22,10 @@ use ae_flow::schedules_fit;
 use ae_lower::{Lowered, MOST_CELLS, add_input, add_inputs};
 use ae_netlist::{Netlist, Port};
 use ae_rewrite::{StFunc, StProgram};
-use ae_seq::{Func, Node, Op, Typed};
+use ae_seq::{Func, Node, Typed};
 use ae_sttype::StType;
 use ae_tidy::tidy;
+use ae_trace::moves_words;
 use std::alloc::{AllocError, Global};
 use std::marker::Model;
 
@@ -134,18 +135,6 @@ impl Fused {
             marks: tidied.marks,
             sections: Vec::new(alloc),
         })
-    }
-}
-
-// Whether a line moves words and computes none.
-fn moves_words(op: &Op) -> bool
-    ensures { result ≡ is_movement_op (op_tree op.now) }
-{
-    match op {
-        Op::Pair | Op::Fst | Op::Snd | Op::Zip => true,
-        Op::Shift(_) | Op::Up(_) | Op::Select(_) => true,
-        Op::Partition(_, _) | Op::Unpartition => true,
-        _ => false,
     }
 }
 

@@ -1,25 +1,14 @@
 // The first line that does more than move words.
 
 ghost use Rattle.std.specs.Prelude.{◌≡◌, None, Some, map, slice_get, true};
-ghost use Rattle.ae_seq.specs.ProgramTree.{func_tree, node_tree, op_tree, program_tree};
+ghost use Rattle.ae_seq.specs.ProgramTree.{func_tree, node_tree, program_tree};
 ghost use Rattle.ae_eval.specs.Stack.{IsTyped};
 ghost use Rattle.ae_rewrite.specs.Interface.{main_of};
-ghost use Rattle.ae_trace.specs.Traces.{is_movement, is_movement_op};
+ghost use Rattle.ae_trace.specs.Traces.{is_movement};
 ghost use Rattle.ae_least.specs.Others.{first_other, other_line};
 
-use ae_seq::{Func, Node, Op, Typed};
-
-// Whether a line moves words and computes none.
-fn moves_words(op: &Op) -> bool
-    ensures { result ≡ is_movement_op (op_tree op.now) }
-{
-    match op {
-        Op::Pair | Op::Fst | Op::Snd | Op::Zip => true,
-        Op::Shift(_) | Op::Up(_) | Op::Select(_) => true,
-        Op::Partition(_, _) | Op::Unpartition => true,
-        _ => false,
-    }
-}
+use ae_seq::{Func, Node, Typed};
+use ae_trace::moves_words;
 
 fn first_other(nodes: &[Node]) -> Option<u32>
     ensures { result ≡ first_other (map node_tree nodes.now) }
