@@ -87,15 +87,17 @@ OthersKeep ns old new targets = (n : List ℕ) → (Among n targets → ⊥) →
 
 -- the word and the store that are taken from those of a name's own net
 abbrev pub next_word : Next → List Clock → (t own : ℕ) → ℕ
+next_word Keep run t own = word_at run t own
 next_word (Word y) run t own = word_at run t y.0
-next_word _ run t own = word_at run t own
+next_word (Write at word enable) run t own = word_at run t own
 
 abbrev pub next_store : Next → List Clock → (t own : ℕ) → List ℕ
+next_store Keep run t own = store_at run t own
+next_store (Word y) run t own = store_at run t own
 next_store (Write at word enable) run t own =
     if word_at run t enable.0 == 1
     then slice_set (store_at run t own) (word_at run t at.0) (word_at run t word.0)
     else store_at run t own
-next_store _ run t own = store_at run t own
 
 -- the clock that is next, by name
 unfoldable pub next_read : List NetTree → List Next → (List ℕ → ℕ) → List Clock → ℕ → ModuleClock
@@ -106,8 +108,9 @@ next_read ns nexts at run t = record {
 
 -- a register's next word so far: not that of a memory
 abbrev pub IsWordNext : Next → Type 0
+IsWordNext Keep = Unit {0}
+IsWordNext (Word y) = Unit {0}
 IsWordNext (Write at word enable) = ⊥
-IsWordNext _ = Unit {0}
 
 -- its net, where the register itself is net own
 abbrev pub IsSoFar : Next → (own net : NetId) → Type 0
@@ -150,12 +153,14 @@ ActsItems from ns ys after old new is =
 
 -- a register's next net, where its own is known, and a memory's cell
 abbrev pub next_net : Next → (own : ℕ) → NetId
+next_net Keep own = record { 0 = own }
 next_net (Word y) own = y
-next_net _ own = record { 0 = own }
+next_net (Write at word enable) own = record { 0 = own }
 
 abbrev pub next_memory : Next → (own width depth : ℕ) → SizedCell
+next_memory Keep own width depth = new_memory own width depth
+next_memory (Word y) own width depth = new_memory own width depth
 next_memory (Write at word enable) own width depth = record { width = width; cell = Mem depth at word enable }
-next_memory _ own width depth = new_memory own width depth
 
 -- the cell of a register or a memory that is connected
 abbrev pub IsConnected : NetKind → List SizedCell → (own width : ℕ) → Next → Type 0

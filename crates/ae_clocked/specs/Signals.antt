@@ -1,11 +1,11 @@
 -- How a netlist grows, and what one net's words are by those of others.
 use Rattle.std.specs.Prelude.{◌≡◌, ℕ, ◌+◌, ◌-◌, ◌<◌, ◌≤◌, ◌≢◌, ◌==◌, ◌%◌, ◌^◌, if◌then◌else◌, Bool, true, false, List, length, Some, Result, IfErr, slice_get}
 use Rattle.ae_word.specs.declared.op.WordOp.{WordOp}
-use Rattle.ae_word.specs.declared.op.WordOp.TheVariants.{Eq, Lt}
+use Rattle.ae_word.specs.declared.op.WordOp.TheVariants.{Add, Sub, Mul, And, Or, Xor, Not, Min, Max, Eq, Lt, Mux, Shl, Shr, Cast, SLt, SMin, SMax, Sar, SCast}
 use Rattle.ae_word.specs.WordTable.{word_result}
 use Rattle.ae_netlist.specs.declared.cell.NetId.{NetId}
 use Rattle.ae_netlist.specs.declared.cell.Cell.{Cell}
-use Rattle.ae_netlist.specs.declared.cell.Cell.TheVariants.{Op}
+use Rattle.ae_netlist.specs.declared.cell.Cell.TheVariants.{Input, Const, Op, Reg, Mem, Peek}
 use Rattle.ae_netlist.specs.declared.cell.SizedCell.{SizedCell}
 use Rattle.ae_netlist.specs.declared.netlist.NetFault.{NetFault}
 use Rattle.ae_netlist.specs.declared.netlist.NetFault.TheVariants.{Full}
@@ -15,13 +15,34 @@ use Rattle.ae_netlist.specs.Runs.{Clock, word_at, InEveryRunFrom}
 
 -- an operator that compares
 abbrev pub compares : WordOp → Bool
+compares Add = false
+compares Sub = false
+compares Mul = false
+compares And = false
+compares Or = false
+compares Xor = false
+compares Not = false
+compares Min = false
+compares Max = false
 compares Eq = true
 compares Lt = true
-compares _ = false
+compares Mux = false
+compares (Shl k) = false
+compares (Shr k) = false
+compares (Cast v) = false
+compares SLt = false
+compares SMin = false
+compares SMax = false
+compares (Sar k) = false
+compares (SCast v) = false
 
 abbrev pub is_test : Cell → Bool
+is_test (Input port) = false
+is_test (Const k) = false
 is_test (Op op args) = compares op
-is_test _ = false
+is_test (Reg next) = false
+is_test (Mem depth at next enable) = false
+is_test (Peek mem at) = false
 
 -- a netlist that has grown: no cell that was there has changed, nor the limit, and no input and no output was added
 pub record Grows (old new : Circuit) : Type 0 where

@@ -9,13 +9,14 @@ use Rattle.ae_netlist.specs.declared.cell.SizedCell.{SizedCell}
 use Rattle.ae_trace.specs.Traces.{is_movement}
 use Rattle.ae_verilog.specs.Notes.{NoteTree}
 use Rattle.ae_verilog.specs.ReportLines.{ReportTree}
-use Rattle.ae_headline.specs.Headline.{AreNotes, AreNotesIn, IsProgramListing, item_name}
+use Rattle.ae_headline.specs.Headline.{AreNotes, AreNotesIn, IsProgramListing}
 use Rattle.ae_headline.specs.Laws.{Tells}
 use Rattle.ae_headline.proofs.Built.{built}
 use Rattle.ae_compile.specs.Building.{IsModuleText}
 use Rattle.ae_compile.specs.Compiling.{report_of}
 use Rattle.ae_compile.specs.Costing.{IsCosted, load_limit, main_costs}
 use Rattle.ae_compile.specs.LineNotes.{AreLineNotes, node_notes, result_notes}
+use Rattle.ae_print.specs.Printed.{item_names, name_at}
 
 notes-tell : (layouts : List StTree) (i : ℕ) (ns : List NodeTree) (ms : List ℕ) → length ms ≡ length ns
     → map {B = ℕ × List ℕ} (λ (n : NoteTree). (n.line, n.name)) (node_notes layouts i ns ms) ≡ map {B = ℕ × List ℕ} (λ (n : NodeTree). (n.line, n.name)) ns
@@ -24,10 +25,11 @@ notes-tell layouts i (n ∷ ns) [] h = absurd (omega (arith, h))
 notes-tell layouts i (n ∷ ns) (m ∷ ms) h = ap (λ l. (n.line, n.name) ∷ l) (notes-tell layouts (i + 1) ns ms (omega (arith, h)))
 
 results-tell : (layouts : List StTree) (f : FuncTree) (is ms : List ℕ) → length ms ≡ length is
-    → map {B = ℕ × List ℕ} (λ (n : NoteTree). (n.line, n.name)) (result_notes layouts f is ms) ≡ map {B = ℕ × List ℕ} (λ i. (f.end_line, item_name f i)) is
+    → map {B = ℕ × List ℕ} (λ (n : NoteTree). (n.line, n.name)) (result_notes layouts f is ms) ≡ map {B = ℕ × List ℕ}
+    (λ i. (f.end_line, name_at (item_names f) i)) is
 results-tell layouts f [] ms h = refl
 results-tell layouts f (i ∷ is) [] h = absurd (omega (arith, h))
-results-tell layouts f (i ∷ is) (m ∷ ms) h = ap (λ l. (f.end_line, item_name f i) ∷ l) (results-tell layouts f is ms (omega (arith, h)))
+results-tell layouts f (i ∷ is) (m ∷ ms) h = ap (λ l. (f.end_line, name_at (item_names f) i) ∷ l) (results-tell layouts f is ms (omega (arith, h)))
 
 told-by : (moves : Bool) (f : FuncTree) (layouts : List StTree) (ms : List ℕ) → length ms ≡ (if moves then length f.results else length f.nodes)
     → AreNotesIn f (map {B = ℕ × List ℕ} (λ (n : NoteTree). (n.line, n.name))

@@ -13,11 +13,11 @@ use Rattle.ae_rewrite.specs.Scheduled.{Keys, HasKey, IsSchedule, AreStNodes, nod
 use Rattle.ae_rewrite.specs.Sound.{IsSound, item_layouts}
 use Rattle.ae_rewrite.specs.Interface.{main_of}
 use Rattle.ae_rewrite.proofs.Forms.{formed-of, few-nodes, both-left as both_left, both-right as both_right}
-use Rattle.ae_headline.specs.Headline.{item_name}
 use Rattle.ae_compile.specs.LineNotes.{AllNamed}
 use Rattle.ae_compile.specs.Costing.{HasParts}
 use Rattle.ae_compile.specs.Mains.{IsInstanceOf}
 use Rattle.ae_flow.proofs.Placed.{nodes_many}
+use Rattle.ae_print.specs.Printed.{item_names, name_at}
 
 -- ---- the instance of the program function
 
@@ -118,7 +118,8 @@ pub main_short : (p : ProgramTree) (k : ℕ) (f : FuncTree) → IsTrue (formed p
     → slice_get f.nodes j ≡ Some n → length n.name ≤ 32
 main_short p k f h at = names_short f.nodes (nodes_named f (main_items_named p k f h at))
 
-pub main_item_short : (p : ProgramTree) (k : ℕ) (f : FuncTree) → IsTrue (formed p) → slice_get p.funcs k ≡ Some f → (i : ℕ) → length (item_name f i) ≤ 32
+pub main_item_short : (p : ProgramTree) (k : ℕ) (f : FuncTree) → IsTrue (formed p) → slice_get p.funcs k ≡ Some f → (i : ℕ)
+    → length (name_at (item_names f) i) ≤ 32
 main_item_short p k f h at =
     let items : IsTrue (named_items f) = main_items_named p k f h at in
     items_short (param_names f.params) (node_names f.nodes) (params_named f items) (nodes_named f items)

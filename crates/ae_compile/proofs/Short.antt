@@ -21,7 +21,6 @@ use Rattle.ae_stall.specs.Images.{moved_outlet}
 use Rattle.ae_stalled.specs.Laws.{stall_limit}
 use Rattle.ae_correct.proofs.Laid.{few_ins, few_outs, ins_filling, outs_filling}
 use Rattle.ae_trace.specs.Traces.{is_movement}
-use Rattle.ae_headline.specs.Headline.{item_name}
 use Rattle.ae_compile.specs.declared.costs.Costs.{Costs}
 use Rattle.ae_compile.specs.Compiling.{IsCompiled, IsCompiledStalled, moved_note}
 use Rattle.ae_compile.specs.Costing.{IsKnown, load_limit, main_costs}
@@ -29,6 +28,7 @@ use Rattle.ae_compile.specs.LineNotes.{AreLineNotes, item_note, node_note, node_
 use Rattle.ae_compile.proofs.Mains.{main_item_short, main_items, main_short}
 use Rattle.ae_compile.proofs.Modules.{few_ports}
 use Rattle.ae_correct.proofs.Written.{unmapped}
+use Rattle.ae_print.specs.Printed.{item_names, name_at}
 
 -- a note tells the name of a node and the layout of its item
 record IsToldOf (layouts : List StTree) (i : ℕ) (ns : List NodeTree) (k : ℕ) (n : NoteTree) : Type 0 where
@@ -69,7 +69,7 @@ few_told layouts i (x ∷ xs) (m ∷ ms) = omega (arith, few_told layouts (i + 1
 record IsEndOf (layouts : List StTree) (f : FuncTree) (is : List ℕ) (k : ℕ) (n : NoteTree) : Type 0 where
   item : ℕ
   found : slice_get is k ≡ Some item
-  name : n.name ≡ item_name f item
+  name : n.name ≡ name_at (item_names f) item
   layout : n.layout ≡ item_layout layouts item
 
 end_of : (layouts : List StTree) (f : FuncTree) (is ms : List ℕ) (k : ℕ) (n : NoteTree) → slice_get (result_notes layouts f is ms) k ≡ Some n
@@ -102,13 +102,13 @@ record IsShortFunc (layouts : List StTree) (f : FuncTree) : Type 0 where
   sized : (i : ℕ) → i < length layouts → IsInSize (item_layout layouts i)
   below : (k i : ℕ) → slice_get f.results k ≡ Some i → i < length layouts
   node_names : (j : ℕ) (n : NodeTree) → slice_get f.nodes j ≡ Some n → length n.name ≤ 32
-  item_names : (i : ℕ) → length (item_name f i) ≤ 32
+  items_short : (i : ℕ) → length (name_at (item_names f) i) ≤ 32
 
 told_short : (moves : Bool) (layouts : List StTree) (f : FuncTree) (ms : List ℕ) → IsShortFunc layouts f
     → AreShortNotes (if moves then result_notes layouts f f.results ms else node_notes layouts (length f.params) f.nodes ms)
 told_short true layouts f ms h = record {
   few = omega (arith, h.results, few_ends layouts f f.results ms);
-  names = λ k n e. (let t = end_of layouts f f.results ms k n e in subst (λ (l : List ℕ). length l ≤ 32) (sym t.name) (h.item_names t.item));
+  names = λ k n e. (let t = end_of layouts f f.results ms k n e in subst (λ (l : List ℕ). length l ≤ 32) (sym t.name) (h.items_short t.item));
   layouts = λ k n e. (let t = end_of layouts f f.results ms k n e in subst IsInSize (sym t.layout) (h.sized t.item (h.below k t.item t.found)));
 }
 told_short false layouts f ms h = record {
@@ -134,7 +134,7 @@ notes_short p slowdown instances costs s cells notes known last h =
       sized = λ i low. (all_items (last_of instances) s (known.sound.each (last_of instances) s last) i low).size;
       below = own.results;
       node_names = main_short p (main_of p) h.func formed h.main;
-      item_names = main_item_short p (main_of p) h.func formed h.main;
+      items_short = main_item_short p (main_of p) h.func formed h.main;
     }))
 
 -- behind the enable they are as short

@@ -2,7 +2,6 @@
 use Rattle.std.specs.Prelude.{◌≡◌, ℕ, ◌+◌, true, false, List, [], ◌∷◌, length, Some, slice_get, if◌then◌else◌}
 use Rattle.ae_seq.specs.ProgramTree.{NodeTree, FuncTree, ProgramTree}
 use Rattle.ae_seq.specs.Formed.{all_name_bytes}
-use Rattle.ae_headline.specs.Headline.{item_name}
 use Rattle.ae_sttype.specs.StTree.{StTree}
 use Rattle.ae_rewrite.specs.StProgramTree.{StFuncTree}
 use Rattle.ae_rewrite.specs.Sound.{item_layout, item_layouts}
@@ -16,6 +15,7 @@ use Rattle.ae_lower.specs.Stretches.{AreNodeCells}
 use Rattle.ae_tidy.specs.Places.{AreMarks}
 use Rattle.ae_trace.specs.Traces.{is_movement}
 use Rattle.ae_verilog.specs.Notes.{NoteTree}
+use Rattle.ae_print.specs.Printed.{item_names, name_at}
 
 -- the names of nodes are of letters, digits and `_` alone
 abbrev pub AllNamed : List NodeTree → Type 0
@@ -34,7 +34,7 @@ node_notes layouts i (n ∷ ns) (m ∷ ms) = node_note m n (item_layout layouts 
 
 -- what is told of a result by itself: the end line, the name and the layout of its item, and where its cells begin
 abbrev pub item_note : FuncTree → (item cell : ℕ) → StTree → NoteTree
-item_note f i cell t = record { cell = cell; line = f.end_line; name = item_name f i; layout = t }
+item_note f i cell t = record { cell = cell; line = f.end_line; name = name_at (item_names f) i; layout = t }
 
 abbrev pub result_notes : (layouts : List StTree) → FuncTree → (items : List ℕ) → (marks : List ℕ) → List NoteTree
 result_notes layouts f [] ms = []

@@ -6,7 +6,7 @@ ghost use Rattle.ae_sttype.specs.StTree.{st_tree};
 ghost use Rattle.ae_rewrite.specs.StProgramTree.{st_func_tree};
 ghost use Rattle.ae_rewrite.specs.Sound.{item_layouts};
 ghost use Rattle.ae_verilog.specs.Notes.{note_tree};
-ghost use Rattle.ae_headline.specs.Headline.{item_name};
+ghost use Rattle.ae_print.specs.Printed.{item_names, name_at};
 ghost use Rattle.ae_compile.specs.LineNotes.{item_note, node_note, node_notes, result_notes};
 ghost use Rattle.ae_compile.specs.Mains.{IsInstanceOf};
 
@@ -55,7 +55,7 @@ fn notes_behind(
 // The name of an item of a function.
 fn item_name(func: &Func, item: usize) -> &str
     requires { item < length (func_tree func.now).params + length (func_tree func.now).nodes }
-    ensures { result.now ≡ item_name (func_tree func.now) item }
+    ensures { result.now ≡ name_at (item_names (func_tree func.now)) item }
 {
     let params = func.params.as_slice();
     let nodes = func.nodes.as_slice();

@@ -1,8 +1,7 @@
 -- What a node costs by itself, apart from the delays before it.
 use Rattle.std.specs.Prelude.{ℕ, zero, suc, ◌+◌, ◌-◌, ◌*◌, ◌/◌, ◌^◌, nat_lt, nat_le, List, if◌then◌else◌, get_or}
 use Rattle.ae_word.specs.declared.op.WordOp.{WordOp}
-use Rattle.ae_word.specs.declared.op.WordOp.TheVariants.{Mul}
-use Rattle.ae_word.specs.WordTable.{latency_of}
+use Rattle.ae_word.specs.WordTable.{latency_of, row_of}
 use Rattle.ae_sttype.specs.StTree.{StTree, atom, tseq, sseq, time}
 use Rattle.ae_sttype.specs.Moves.{columns_of}
 use Rattle.ae_moves.specs.Rings.{rings}
@@ -32,8 +31,7 @@ abbrev pub where_many : (slots n : ℕ) → ℕ
 where_many slots n = if nat_lt 1 slots then n else 0
 
 abbrev pub where_mul : WordOp → (n : ℕ) → ℕ
-where_mul Mul n = n
-where_mul _ n = 0
+where_mul op n = if (row_of op).multiplies then n else 0
 
 abbrev pub word_costs : WordOp → OwnCosts
 word_costs op = record { latency = latency_of op; load = 1 + latency_of op; muls = where_mul op 1; mems = 0 }

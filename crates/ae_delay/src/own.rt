@@ -15,7 +15,7 @@ use crate::moves::{MoveCosts, columns_in};
 use ae_moves::rings;
 use ae_rewrite::MoveOp;
 use ae_sttype::StType;
-use ae_word::{WordOp, latency};
+use ae_word::{WordOp, latency, multiplies};
 use std::alloc::{AllocError, Global};
 
 /// What a node or an instance costs: its latency, its load, its multipliers and its memories.
@@ -77,10 +77,7 @@ fn where_mul(op: WordOp, n: u64) -> u64
     ensures mul { result ≡ where_mul op n }
     ensures most { result ≤ n }
 {
-    match op {
-        WordOp::Mul => n,
-        _ => 0,
-    }
+    if multiplies(op) { n } else { 0 }
 }
 
 /// An operator on words.

@@ -10,9 +10,8 @@ ghost use Rattle.ae_judge.specs.Shape.{IsShapely};
 ghost use Rattle.ae_gates.specs.Cells.{HasRoom};
 ghost use Rattle.ae_elab.specs.Declaring.{Adds, AreDeclared, given_cell};
 
-use ae_gates::push;
 use ae_judge::{Names, clock_of, is_named};
-use ae_netlist::{Cell, NetFault, NetId, Netlist, Port};
+use ae_netlist::{Cell, NetId, Netlist, Port};
 use ae_vread::{NetKind, VModule, VNet};
 use std::alloc::{AllocError, Global};
 
@@ -23,11 +22,7 @@ fn push_register(nl: &mut Netlist, width: u32) -> Result<NetId, AllocError>
     requires room { HasRoom nl.old 1 }
     ensures { IfOk result (λ net. Adds (Some (new_register (length nl.old.cells) width)) nl.old nl.new (Some net)) }
 {
-    match nl.state(width) {
-        Ok(net) => Ok(net),
-        Err(NetFault::Full) => unreachable!(),
-        Err(NetFault::Memory) => Err(AllocError),
-    }
+    nl.push_register(width)
 }
 
 /// Adds a memory, for which there is room.
@@ -39,11 +34,7 @@ fn push_memory(nl: &mut Netlist, width: u32, depth: u32) -> Result<NetId, AllocE
     requires room { HasRoom nl.old 1 }
     ensures { IfOk result (λ net. Adds (Some (new_memory (length nl.old.cells) width depth)) nl.old nl.new (Some net)) }
 {
-    match nl.memory(width, depth) {
-        Ok(net) => Ok(net),
-        Err(NetFault::Full) => unreachable!(),
-        Err(NetFault::Memory) => Err(AllocError),
-    }
+    nl.push_memory(width, depth)
 }
 
 /// The net of a name, if it has one before any equation is looked at. Inputs are plain ports, numbered as they come.
@@ -61,7 +52,7 @@ fn declare(nl: &mut Netlist, net: &VNet, is_clock: bool) -> Result<Option<NetId>
                 return Ok(None);
             }
             let port = nl.inputs();
-            let input = push(nl, net.width, Cell::Input(Port::Plain(port)))?;
+            let input = nl.push(net.width, Cell::Input(Port::Plain(port)))?;
             Ok(Some(input))
         }
         NetKind::Reg | NetKind::OutReg => {

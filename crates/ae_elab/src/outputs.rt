@@ -19,7 +19,10 @@ use std::alloc::AllocError;
 fn is_output_kind(kind: NetKind) -> bool
     ensures { result ≡ is_output_kind kind }
 {
-    matches!(kind, NetKind::OutWire | NetKind::OutReg)
+    match kind {
+        NetKind::OutWire | NetKind::OutReg => true,
+        NetKind::Input | NetKind::Wire | NetKind::Reg | NetKind::Memory(_) => false,
+    }
 }
 
 /// Adds a net as the next plain output.

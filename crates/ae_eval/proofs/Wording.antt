@@ -6,11 +6,11 @@ use Rattle.std.proofs.lemmas.Bool.Decides.{nat_tests}
 use Rattle.ae_word.specs.declared.op.WordOp.{WordOp}
 use Rattle.ae_word.specs.declared.op.WordOp.TheVariants.{Add, Sub, Mul, And, Or, Xor, Not, Min, Max, Eq, Lt, Mux, Shl, Shr, Cast, SLt, SMin, SMax, Sar, SCast}
 use Rattle.ae_word.specs.AtomTree.{AtomTree, WordKind, word, pair, atom_kinds, atom_in_size, widths_in_range, same_kind, same_sign, unsigned_word, signed_word}
-use Rattle.ae_word.specs.WordTable.{result_width_of, OperandsFit, HasRange, op_for}
+use Rattle.ae_word.specs.WordTable.{result_width_of, OperandsFit, HasRange, op_for, row_of}
 use Rattle.ae_seqtype.specs.SeqTree.{SeqTree, atom, seq, same_type, in_size}
 use Rattle.ae_seqtype.specs.ValueTree.{ValueTree, number, value_of, FitKinds, Fit, Stands}
 use Rattle.ae_seq.specs.Typing.{word_type, one_word, two_words, as_word, kind_of}
-use Rattle.ae_seq.specs.Meaning.{coded, word_value, cast_value, operand_kind, result_kind, kind_in}
+use Rattle.ae_seq.specs.Meaning.{coded, word_value, cast_value, kind_in, at}
 use Rattle.ae_eval.specs.Stack.{FitAt, Pushed, window}
 use Rattle.ae_eval.proofs.Windows.{pushed-on}
 use Rattle.ae_eval.proofs.Moving.{where_ok-some}
@@ -93,19 +93,19 @@ bit-of (seq n t) h = cc
 pub record OneWord (op : WordOp) (s u : SeqTree) : Type 0 where
   pub kind : WordKind
   pub first : s ≡ atom (word kind)
-  pub result : u ≡ atom (word (result_kind op kind))
+  pub result : u ≡ atom (word ((row_of op).result kind))
   pub fit : (a b c : ℕ) → a < 2 ^ kind.width → OperandsFit (op_for kind.signed op) kind.width a b c
-  pub wide : result_width_of (op_for kind.signed op) kind.width ≡ (result_kind op kind).width
-  pub by : (v : ValueTree) → operand_kind op (v ∷ []) ≡ kind_in v
+  pub wide : result_width_of (op_for kind.signed op) kind.width ≡ ((row_of op).result kind).width
+  pub by : (v : ValueTree) → kind_in (at (v ∷ []) (row_of op).main) ≡ kind_in v
 
 pub record TwoWords (op : WordOp) (s z u : SeqTree) : Type 0 where
   pub kind : WordKind
   pub first : s ≡ atom (word kind)
   pub second : z ≡ atom (word kind)
-  pub result : u ≡ atom (word (result_kind op kind))
+  pub result : u ≡ atom (word ((row_of op).result kind))
   pub fit : (a b c : ℕ) → a < 2 ^ kind.width → b < 2 ^ kind.width → OperandsFit (op_for kind.signed op) kind.width a b c
-  pub wide : result_width_of (op_for kind.signed op) kind.width ≡ (result_kind op kind).width
-  pub by : (v w : ValueTree) → operand_kind op (v ∷ w ∷ []) ≡ kind_in v
+  pub wide : result_width_of (op_for kind.signed op) kind.width ≡ ((row_of op).result kind).width
+  pub by : (v w : ValueTree) → kind_in (at (v ∷ w ∷ []) (row_of op).main) ≡ kind_in v
 
 pub record Choice (op : WordOp) (t s z u : SeqTree) : Type 0 where
   pub is : op ≡ Mux
@@ -358,9 +358,9 @@ one-pushed op s start old new x r h ex er en = pushed-on _ old new (r ∷ []) _ 
     let w = word-window s k start old x l.first h ex in
     let v = value-is s k (window s start old) x l.first w.0 in
     let c = er k (kind-is s k l.first) in
-    let small : coded op k x 0 0 < 2 ^ (result_kind op k).width = rw l.wide at (word_fits (op_for k.signed op) k.width x 0 0 (l.fit x 0 0 w.1)) in
-    let st = stands-word u (result_kind op k) (coded op k x 0 0) l.result small in
-    let value : number (result_kind op k) (coded op k x 0 0) ≡ word_value op (number k x ∷ []) = ap (λ q. number (result_kind op q) (coded op q x 0 0))
+    let small : coded op k x 0 0 < 2 ^ ((row_of op).result k).width = rw l.wide at (word_fits (op_for k.signed op) k.width x 0 0 (l.fit x 0 0 w.1)) in
+    let st = stands-word u ((row_of op).result k) (coded op k x 0 0) l.result small in
+    let value : number ((row_of op).result k) (coded op k x 0 0) ≡ word_value op (number k x ∷ []) = ap (λ q. number ((row_of op).result q) (coded op q x 0 0))
     (sym (l.by (number k x))) in
     let P : ValueTree → Type 0 = λ z. Stands u (coded op k x 0 0 ∷ []) z in
     let Q : ℕ → Type 0 = λ z. Stands u (z ∷ []) (word_value op (value_of s (window s start old) ∷ [])) in
@@ -403,10 +403,10 @@ two-pushed op s z start place old new x y r h g ex ey er en = pushed-on _ old ne
     let vx = value-is s k (window s start old) x l.first wx.0 in
     let vy = value-is z k (window z place old) y l.second wy.0 in
     let c = er k (kind-is s k l.first) in
-    let small : coded op k x y 0 < 2 ^ (result_kind op k).width = rw l.wide at (word_fits (op_for k.signed op) k.width x y 0 (l.fit x y 0 wx.1 wy.1)) in
-    let st = stands-word u (result_kind op k) (coded op k x y 0) l.result small in
-    let value : number (result_kind op k) (coded op k x y 0) ≡ word_value op (number k x ∷ number k y ∷ []) = ap
-    (λ q. number (result_kind op q) (coded op q x y 0)) (sym (l.by (number k x) (number k y))) in
+    let small : coded op k x y 0 < 2 ^ ((row_of op).result k).width = rw l.wide at (word_fits (op_for k.signed op) k.width x y 0 (l.fit x y 0 wx.1 wy.1)) in
+    let st = stands-word u ((row_of op).result k) (coded op k x y 0) l.result small in
+    let value : number ((row_of op).result k) (coded op k x y 0) ≡ word_value op (number k x ∷ number k y ∷ []) = ap
+    (λ q. number ((row_of op).result q) (coded op q x y 0)) (sym (l.by (number k x) (number k y))) in
     let P : ValueTree → Type 0 = λ q. Stands u (coded op k x y 0 ∷ []) q in
     let Q : ℕ → Type 0 = λ q. Stands u (q ∷ []) (word_value op (value_of s (window s start old) ∷ value_of z (window z place old) ∷ [])) in
     subst Q (sym c) (subst P (value ∙ ap (λ q. word_value op (q ∷ number k y ∷ [])) (sym vx) ∙

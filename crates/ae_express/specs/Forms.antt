@@ -4,7 +4,7 @@ use Rattle.ae_word.specs.declared.op.WordOp.{WordOp}
 use Rattle.ae_word.specs.declared.op.WordOp.TheVariants.{Mux}
 use Rattle.ae_word.specs.WordTable.{HasRange, bit, is_signed, result_width_of, word_result}
 use Rattle.ae_vread.specs.declared.module.BinOp.{BinOp}
-use Rattle.ae_vread.specs.declared.module.BinOp.TheVariants.{Shl, Shr}
+use Rattle.ae_vread.specs.declared.module.BinOp.TheVariants.{Mul, Add, Sub, Shl, Shr, Lt, Le, Gt, Ge, Eq, Ne, And, Xor, Or, Both, Either}
 use Rattle.ae_vread.specs.ModuleTree.{ExprTree}
 use Rattle.ae_judge.specs.Widths.{binary_width}
 use Rattle.ae_judge.specs.Weight.{operator_weight, shift_weight}
@@ -26,9 +26,22 @@ relation_result AtMost a b = bit (nat_le a b)
 
 -- the most cells that an operator takes beside its operands, where the amount of a shift is no constant
 abbrev pub most_cells : BinOp → ℕ
+most_cells Mul = 7
+most_cells Add = 7
+most_cells Sub = 7
 most_cells Shl = 47
 most_cells Shr = 47
-most_cells _ = 7
+most_cells Lt = 7
+most_cells Le = 7
+most_cells Gt = 7
+most_cells Ge = 7
+most_cells Eq = 7
+most_cells Ne = 7
+most_cells And = 7
+most_cells Xor = 7
+most_cells Or = 7
+most_cells Both = 7
+most_cells Either = 7
 
 -- an operator that stands in netlists, on words without sign
 pub record IsPlainOp (op : WordOp) : Type 0 where

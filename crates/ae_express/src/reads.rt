@@ -12,7 +12,7 @@ ghost use Rattle.ae_runs.specs.Named.{AreNamed, AreNets, IsNamed, IsReady, place
 ghost use Rattle.ae_order.specs.Sound.{IsWordName, places_of};
 
 use crate::own::name_width;
-use ae_gates::{cut, push, widen};
+use ae_gates::{cut, widen};
 use ae_judge::Names;
 use ae_netlist::{Cell, NetId, Netlist};
 use ae_order::place_of;
@@ -112,7 +112,7 @@ fn peek(
     ensures net { IfOk result (λ y. IsNet nl.new.cells y.0 width) }
     ensures word { IfOk result (λ y. (f : List Clock → ℕ → ℕ) → IsWord from nl.old.cells at.0 _own f → IsWord from nl.new.cells y.0 width (λ run t. get_or (store_at run t memory.0) (f run t) 0)) }
 {
-    let y = push(nl, width, Cell::Peek { mem: memory, at })?;
+    let y = nl.push(width, Cell::Peek { mem: memory, at })?;
     Ok(y)
 }
 
@@ -128,7 +128,7 @@ pub fn address(nl: &mut Netlist, from: u32, place: u32) -> Result<NetId, AllocEr
     ensures word { IfOk result (λ y. IsWord from nl.new.cells y.0 16 (λ run t. place)) }
     ensures address { IfOk result (λ y. (depth : ℕ) → place < depth → IsAddress nl.new.cells y.0 depth) }
 {
-    let y = push(nl, 16, Cell::Const(u64::from(place)))?;
+    let y = nl.push(16, Cell::Const(u64::from(place)))?;
     Ok(y)
 }
 

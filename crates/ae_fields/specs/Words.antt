@@ -3,8 +3,8 @@ use Rattle.std.specs.Prelude.{ℕ, ◌&&◌, ◌==◌, nat_lt, if◌then◌else�
 use Rattle.std.specs.Str.{bytes_eq}
 use Rattle.ae_word.specs.declared.op.WordOp.{WordOp}
 use Rattle.ae_word.specs.declared.op.WordOp.TheVariants.{Add, Sub, Mul, And, Or, Xor, Not, Min, Max, Eq, Lt, Mux, Shl, Shr, Cast}
-use Rattle.ae_word.specs.AtomTree.{word as atom_word}
-use Rattle.ae_seqtype.specs.SeqTree.{SeqTree, atom}
+use Rattle.ae_word.specs.AtomTree.{word as atom_word, pair as atom_pair}
+use Rattle.ae_seqtype.specs.SeqTree.{SeqTree, atom, seq}
 use Rattle.ae_seq.specs.ProgramTree.{OpTree, word, cast_int, pair, fst, snd, const, zip, call, each, each_two, reduce, scan, shift, up, select, partition, unpartition}
 use Rattle.ae_fields.specs.Number.{numeral_value, plain_of}
 use Rattle.ae_seq.specs.Typing.{where_ok, ◌>>=◌}
@@ -76,7 +76,8 @@ fold_op version w f =
 -- the cast to a type that is a word
 abbrev pub cast_of : SeqTree → Option OpTree
 cast_of (atom (atom_word k)) = Some (if k.signed then cast_int k.width else word (Cast k.width))
-cast_of _ = None
+cast_of (atom (atom_pair a b)) = None
+cast_of (seq n t) = None
 
 abbrev pub cast_op : (version : ℕ) → List ℕ → List ℕ → Option OpTree
 cast_op version w f = where_ok (bytes_eq w (codes "cast")) (type_of version f >>= cast_of)

@@ -6,14 +6,14 @@ use Rattle.std.proofs.lemmas.Option.{none-some, same_Some, option_and_then_some}
 use Rattle.ae_word.specs.declared.op.WordOp.{WordOp}
 use Rattle.ae_word.specs.declared.op.WordOp.TheVariants.{Min, Max, Lt, Mux, Shr, Cast}
 use Rattle.ae_word.specs.AtomTree.{AtomTree, WordKind, word, pair, atom_words, atom_kinds, signed_word, unsigned_word}
-use Rattle.ae_word.specs.WordTable.{word_result, result_width_of, op_for, OperandsFit}
+use Rattle.ae_word.specs.WordTable.{word_result, result_width_of, op_for, OperandsFit, row_of}
 use Rattle.ae_word.proofs.Sizes.{length-atom_kinds}
 use Rattle.ae_seqtype.specs.SeqTree.{SeqTree, atom, seq, atoms, atom_of, words, kinds}
 use Rattle.ae_seqtype.specs.ValueTree.{ValueTree, number, both, atom_value, value_of, Fit, FitKinds, fit_kinds, Stands}
 use Rattle.ae_seqtype.proofs.Stands.{length-Fit, FitKinds-split, stands}
 use Rattle.ae_sttype.specs.StTree.{StTree}
 use Rattle.ae_seq.specs.Typing.{word_type, one_word, as_word, pair_type, fst_type, snd_type, zip_type, zipped_type, where_ok, ◌>>=◌}
-use Rattle.ae_seq.specs.Meaning.{coded, word_value, cast_value, result_kind, first_part, second_part, zipped}
+use Rattle.ae_seq.specs.Meaning.{coded, word_value, cast_value, first_part, second_part, zipped}
 use Rattle.ae_eval.specs.Stack.{FitAt, paired, window}
 use Rattle.ae_eval.proofs.Moving.{where_ok-some, join_fit}
 use Rattle.ae_eval.proofs.WordFits.{word_fits}
@@ -74,11 +74,11 @@ word-of s ws k e h =
     let one = word-in k ws (subst (λ z. Fit z ws) e h) in
     record { word = one.0; is = ap (λ us. get_or us 0 0) one.1; small = one.2; value = ap (λ z. value_of z ws) e ∙ ap (atom_value (word k)) one.1 }
 
-word-stands : (op : WordOp) (k : WordKind) (u : SeqTree) (x y z r : ℕ) → u ≡ atom (word (result_kind op k)) → r ≡ coded op k x y z
+word-stands : (op : WordOp) (k : WordKind) (u : SeqTree) (x y z r : ℕ) → u ≡ atom (word ((row_of op).result k)) → r ≡ coded op k x y z
     → OperandsFit (op_for k.signed op) k.width x y z
-    → result_width_of (op_for k.signed op) k.width ≡ (result_kind op k).width → Stands u (r ∷ []) (number (result_kind op k) (coded op k x y z))
+    → result_width_of (op_for k.signed op) k.width ≡ ((row_of op).result k).width → Stands u (r ∷ []) (number ((row_of op).result k) (coded op k x y z))
 word-stands op k u x y z r e same fits wide =
-    let small : coded op k x y z < 2 ^ (result_kind op k).width = subst (λ w. coded op k x y z < 2 ^ w) wide
+    let small : coded op k x y z < 2 ^ ((row_of op).result k).width = subst (λ w. coded op k x y z < 2 ^ w) wide
     (word_fits (op_for k.signed op) k.width x y z fits) in
     rw (e, same) (record { fits = (small, tt); value = refl })
 
@@ -103,8 +103,8 @@ one-words op b s u a ws type sign l h =
     let width : width_of (op_for b op) (a ∷ []) ≡ k.width = ap (λ i. first_width (item_layout (a ∷ []) i)) (main-first op b (one-no-choice op s u type)) ∙
     width-is s a k l r.first in
     let same = coded-is op b k (width_of (op_for b op) (a ∷ [])) (get_or ws 0 0) 0 0 x.word 0 0 (sign k r.first) width x.is refl refl in
-    let value : word_value op (value_of s ws ∷ []) ≡ number (result_kind op k) (coded op k x.word 0 0) =
-    ap (λ v. word_value op (v ∷ [])) x.value ∙ ap (λ q. number (result_kind op q) (coded op q x.word 0 0)) (r.by (number k x.word)) in
+    let value : word_value op (value_of s ws ∷ []) ≡ number ((row_of op).result k) (coded op k x.word 0 0) =
+    ap (λ v. word_value op (v ∷ [])) x.value ∙ ap (λ q. number ((row_of op).result q) (coded op q x.word 0 0)) (r.by (number k x.word)) in
     rw value (word-stands op k u x.word 0 0 _ r.result same (r.fit x.word 0 0 x.small) r.wide)
 
 pub two-words : (op : WordOp) (b : Bool) (s z u : SeqTree) (a c : StTree) (ws us : List ℕ) → word_type op (s ∷ z ∷ []) ≡ Some u → IsSign s b → LaysOut s a
@@ -119,9 +119,9 @@ two-words op b s z u a c ws us type sign l h g =
     let width : width_of (op_for b op) (a ∷ c ∷ []) ≡ k.width = ap (λ i. first_width (item_layout (a ∷ c ∷ []) i))
     (main-first op b (two-no-choice op s z u type)) ∙ width-is s a k l r.first in
     let same = coded-is op b k (width_of (op_for b op) (a ∷ c ∷ [])) (get_or ws 0 0) (get_or us 0 0) 0 x.word y.word 0 (sign k r.first) width x.is y.is refl in
-    let value : word_value op (value_of s ws ∷ value_of z us ∷ []) ≡ number (result_kind op k) (coded op k x.word y.word 0) =
+    let value : word_value op (value_of s ws ∷ value_of z us ∷ []) ≡ number ((row_of op).result k) (coded op k x.word y.word 0) =
     ap (λ v. word_value op (v ∷ value_of z us ∷ [])) x.value ∙ ap (λ v. word_value op (number k x.word ∷ v ∷ [])) y.value
-    ∙ ap (λ q. number (result_kind op q) (coded op q x.word y.word 0)) (r.by (number k x.word) (number k y.word)) in
+    ∙ ap (λ q. number ((row_of op).result q) (coded op q x.word y.word 0)) (r.by (number k x.word) (number k y.word)) in
     rw value (word-stands op k u x.word y.word 0 _ r.result same (r.fit x.word y.word 0 x.small y.small) r.wide)
 
 choice-fit : (b : Bool) (w x y z : ℕ) → x < 2 → y < 2 ^ w → z < 2 ^ w → OperandsFit (op_for b Mux) w x y z

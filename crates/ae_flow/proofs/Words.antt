@@ -5,12 +5,11 @@ use Rattle.std.proofs.lemmas.Bool.Decides.{nat_tests}
 use Rattle.ae_word.specs.declared.op.WordOp.{WordOp}
 use Rattle.ae_word.specs.declared.op.WordOp.TheVariants.{Mux, Cast, SCast}
 use Rattle.ae_word.specs.AtomTree.{WordKind, word, unsigned_word, signed_word}
-use Rattle.ae_word.specs.WordTable.{HasRange, arity_of, result_width_of, op_for}
+use Rattle.ae_word.specs.WordTable.{HasRange, arity_of, result_width_of, op_for, row_of}
 use Rattle.ae_seqtype.specs.SeqTree.{SeqTree, atom, in_size}
 use Rattle.ae_seq.specs.ProgramTree.{ProgramTree}
 use Rattle.ae_seq.specs.Formed.{is_word_line, within}
 use Rattle.ae_seq.specs.Typing.{type_at, word_type, one_word, as_word}
-use Rattle.ae_seq.specs.Meaning.{result_kind}
 use Rattle.ae_eval.proofs.Items.{option-both}
 use Rattle.ae_eval.proofs.Wording.{one-line, two-line, choice-line, sized-word as kind_sized}
 use Rattle.ae_sttype.specs.StTree.{StTree}
@@ -100,7 +99,7 @@ pub word_one : (p : ProgramTree) (f budget : ℕ) (op : WordOp) (a : ℕ) (t u :
     → FitsWord (op_by p f op (a ∷ [])) (x ∷ []) s
 word_one p f budget op a t u x s arity line type laid is out =
     let l = one-line op t u is in
-    one_fits p f budget op a t l.kind (result_kind op l.kind) x s arity line type l.first laid (rw l.result at out) l.wide
+    one_fits p f budget op a t l.kind ((row_of op).result l.kind) x s arity line type l.first laid (rw l.result at out) l.wide
 
 pub word_two : (p : ProgramTree) (f budget : ℕ) (op : WordOp) (a b : ℕ) (t v u : SeqTree) (x y s : StTree) → arity_of op ≡ 2 → IsTrue (is_word_line op)
     → type_at p f a ≡ Some t → IsLaidAs t budget x → IsLaidAs v budget y
@@ -111,7 +110,7 @@ word_two p f budget op a b t v u x y s arity line type laid laid_too is out =
     let few : arity_of op ≤ 2 = omega arith in
     let i = word_laid k budget x (rw l.first at laid) in
     let j = word_laid k budget y (rw l.second at laid_too) in
-    let o = word_laid (result_kind op k) budget s (rw l.result at out) in
+    let o = word_laid ((row_of op).result k) budget s (rw l.result at out) in
     let by = op_of p f op (a ∷ b ∷ []) k (ap (type_at p f) (operand_of op (a ∷ b ∷ []) few) ∙ (type ∙ ap Some l.first)) in
     let width : width_of (op_for k.signed op) (x ∷ y ∷ []) ≡ k.width = rw (main_of k.signed op few) i.width in
     let ins : streams_of (x ∷ y ∷ []) ≡ map word_stream (operand_widths (op_for k.signed op) k.width) = rw (

@@ -87,15 +87,20 @@ abbrev pub FitsOp : (before : List StFuncTree) (budget copies : ℕ) (args : Lis
     → Type 0
 FitsOp before budget copies args s (word op) = FitsWord op args s
 FitsOp before budget copies (a ∷ b ∷ []) s join = FitsPair a b s
+FitsOp before budget copies args s join = ⊥
 FitsOp before budget copies (a ∷ []) s first = FitsFirst s a
+FitsOp before budget copies args s first = ⊥
 FitsOp before budget copies (a ∷ []) s second = FitsSecond s a
+FitsOp before budget copies args s second = ⊥
 FitsOp before budget copies args s (fixed ws) = (args ≡ []) × FixedFits s ws
 FitsOp before budget copies (a ∷ []) s (move how) = FitsMove how a s
+FitsOp before budget copies args s (move how) = ⊥
 FitsOp before budget copies (a ∷ []) s (fold op slots lanes raw) = FitsFold budget op slots lanes raw a s
+FitsOp before budget copies args s (fold op slots lanes raw) = ⊥
 FitsOp before budget copies (a ∷ []) s (scan op slots lanes) = FitsScan budget op slots lanes a s
+FitsOp before budget copies args s (scan op slots lanes) = ⊥
 FitsOp before budget copies args s (body k) =
     (f : StFuncTree) × (slice_get before k ≡ Some f) × FitsBody budget copies args s f
-FitsOp before budget copies args s _ = ⊥
 
 abbrev pub FitsNode : (before : List StFuncTree) (s : StFuncTree) → StNodeTree → Type 0
 FitsNode before s n = FitsOp before s.budget n.copies (map (item_layout (item_layouts s)) n.args) n.type n.op

@@ -2,9 +2,8 @@
 use Rattle.std.specs.Prelude.{ℕ, ◌+◌, ◌-◌, ◌*◌, ◌/◌, ◌%◌, List, [], ◌∷◌, length, map, take, drop, flat_map, get_or, Option, Some, None, slice_get}
 use Rattle.std.specs.List.{range_with_len}
 use Rattle.ae_word.specs.declared.op.WordOp.{WordOp}
-use Rattle.ae_word.specs.declared.op.WordOp.TheVariants.{Mux}
 use Rattle.ae_word.specs.AtomTree.{WordKind, atom_kinds, unsigned_word}
-use Rattle.ae_word.specs.WordTable.{word_result}
+use Rattle.ae_word.specs.WordTable.{row_of, word_result}
 use Rattle.ae_sttype.specs.StTree.{StTree, atom, sseq, st_atoms, element_atom, element_words}
 use Rattle.ae_seq.specs.Typing.{grown}
 use Rattle.ae_eval.specs.Stack.{paired}
@@ -27,8 +26,7 @@ words_at vs k = get_or vs k []
 
 -- the argument by whose width an operator works: of a choice its first arm
 abbrev pub main_argument : WordOp → ℕ
-main_argument Mux = 1
-main_argument _ = 0
+main_argument op = (row_of op).main
 
 -- the width of the first word of each element
 abbrev pub first_width : StTree → ℕ

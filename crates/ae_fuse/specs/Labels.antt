@@ -4,7 +4,7 @@ use Rattle.std.specs.List.{range_with_len}
 use Rattle.ae_sttype.specs.StTree.{StTree, element_words}
 use Rattle.ae_sttype.specs.Size.{IsInSize}
 use Rattle.ae_sttype.specs.Moves.{OriginTree, from_input, fixed}
-use Rattle.ae_rewrite.specs.StProgramTree.{StOpTree, join, first, second, move, StNodeTree, StFuncTree}
+use Rattle.ae_rewrite.specs.StProgramTree.{StNodeTree, StFuncTree, StOpTree, word, join, first, second, fixed, move, fold, scan, body}
 use Rattle.ae_rewrite.specs.Sound.{item_layout, item_layouts}
 use Rattle.ae_flow.specs.Flow.{layout_words, words_at}
 use Rattle.ae_flow.specs.Fitted.{FitsNode}
@@ -12,11 +12,15 @@ use Rattle.ae_flow.specs.Fitted.{FitsNode}
 -- ---- nodes that move words
 
 abbrev pub is_moving : StOpTree → Bool
+is_moving (word op) = false
 is_moving join = true
 is_moving first = true
 is_moving second = true
+is_moving (fixed ws) = false
 is_moving (move how) = true
-is_moving _ = false
+is_moving (fold op slots lanes raw) = false
+is_moving (scan op slots lanes) = false
+is_moving (body k) = false
 
 abbrev pub are_moving : List StNodeTree → Bool
 are_moving [] = true

@@ -211,6 +211,7 @@ pub(crate) fn node_labels(
         StOp::Join => pair_node(alloc, s, node, labels),
         StOp::First => part_node(alloc, s, node, labels, true),
         StOp::Second => part_node(alloc, s, node, labels, false),
-        _ => unreachable!(),
+        StOp::Word(_) | StOp::Fixed(_) | StOp::Fold { .. } | StOp::Scan { .. } | StOp::Body(_) =>
+            unreachable!(),
     }
 }

@@ -24,7 +24,7 @@ use ae_clocked::Clocks;
 use ae_gather::Gather;
 use ae_lower::{add_outputs, later};
 use ae_moves::Origin;
-use ae_netlist::{NetFault, Netlist};
+use ae_netlist::{Netlist, in_room};
 use ae_ops::{Bundle, Stage};
 use ae_sttype::StType;
 use std::alloc::{AllocError, Global};
@@ -80,16 +80,9 @@ fn result_nets(
     ensures moved { IfOk result (λ b. IsLateResult nl.new.cells clocks.old.rst whole (move_of gather) args.now b) }
 {
     let slack = whole - gather.latency();
-    let bundle = match gather.build(alloc, nl, clocks, args, 0) {
-        Ok(bundle) => bundle,
-        Err(NetFault::Full) => unreachable!(),
-        Err(NetFault::Memory) => return Err(AllocError),
-    };
-    match later(alloc, nl, clocks, &bundle, slack) {
-        Ok(late) => Ok(late),
-        Err(NetFault::Full) => unreachable!(),
-        Err(NetFault::Memory) => Err(AllocError),
-    }
+    let bundle = in_room(gather.build(alloc, nl, clocks, args, 0))?;
+    let late = in_room(later(alloc, nl, clocks, &bundle, slack))?;
+    Ok(late)
 }
 
 /// The nets of all results, and for each the number of the cells before its own.

@@ -7,4 +7,4 @@ mod gates;
 pub use compounds::{
     Way, chosen, compared, cut, is_zero, linked, moved_by, opposed, shifted, tested,
 };
-pub use gates::{fit, fixed, gate, push, select, widen};
+pub use gates::{fit, fixed, gate, select, widen};

@@ -1,6 +1,7 @@
 -- The short form of a listing is the text that is written.
 use Rattle.std.proofs.Common.{◌≡◌, ℕ, ◌-◌, Bool, true, false, List, ◌++◌, length, refl, ap, arith}
-use Rattle.std.specs.Prelude.{nat_lt, codes, decimal, if◌then◌else◌}
+use Rattle.std.specs.Prelude.{◌&&◌, nat_lt, codes, decimal, if◌then◌else◌}
+use Rattle.ae_word.specs.WordTable.{row_of}
 use Rattle.std.proofs.lemmas.Fmt.{decimal_digit}
 use Rattle.std.specs.List.{flat_map}
 use Rattle.ae_word.specs.declared.op.WordOp.{WordOp}
@@ -70,36 +71,17 @@ plain_value lines cells net w a b d op = ap (wire lines w net) (value_same lines
 op_same : (lines : ℕ → ℕ) (cells : List SizedCell) (net w a b d : ℕ) (op : WordOp)
     → op_text lines cells w net op a b d ≡ quiet op w (width_of cells a)
     (wire lines w net (op_line op w (width_of cells a) (net_name lines cells a) (net_name lines cells b) (net_name lines cells d)))
-op_same lines cells net w a b d (Cast to) = choose (nat_lt (width_of cells a) w)
+op_same lines cells net w a b d op = choose ((row_of op).casts && nat_lt (width_of cells a) w)
   where
-    choose : (t : Bool) → (if t then widened_text lines w net (op_expression lines cells w (Cast to) a b d) else value_text lines w net
-        (op_expression lines cells w (Cast to) a b d))
+    choose : (t : Bool) → (if t then widened_text lines w net (op_expression lines cells w op a b d) else value_text lines w net
+        (op_expression lines cells w op a b d))
         ≡ (if t then codes "  // verilator lint_off WIDTH\n"
-        ++ (wire lines w net (op_line (Cast to) w (width_of cells a) (net_name lines cells a) (net_name lines cells b) (net_name lines cells d))
+        ++ (wire lines w net (op_line op w (width_of cells a) (net_name lines cells a) (net_name lines cells b) (net_name lines cells d))
         ++ codes "  // verilator lint_on WIDTH\n")
-        else wire lines w net (op_line (Cast to) w (width_of cells a) (net_name lines cells a) (net_name lines cells b) (net_name lines cells d)))
+        else wire lines w net (op_line op w (width_of cells a) (net_name lines cells a) (net_name lines cells b) (net_name lines cells d)))
     choose true = ap (λ l. codes "  // verilator lint_off WIDTH\n" ++ (l ++ codes "  // verilator lint_on WIDTH\n"))
-        (plain_value lines cells net w a b d (Cast to))
-    choose false = plain_value lines cells net w a b d (Cast to)
-op_same lines cells net w a b d Add = plain_value lines cells net w a b d Add
-op_same lines cells net w a b d Sub = plain_value lines cells net w a b d Sub
-op_same lines cells net w a b d Mul = plain_value lines cells net w a b d Mul
-op_same lines cells net w a b d And = plain_value lines cells net w a b d And
-op_same lines cells net w a b d Or = plain_value lines cells net w a b d Or
-op_same lines cells net w a b d Xor = plain_value lines cells net w a b d Xor
-op_same lines cells net w a b d Not = plain_value lines cells net w a b d Not
-op_same lines cells net w a b d Min = plain_value lines cells net w a b d Min
-op_same lines cells net w a b d Max = plain_value lines cells net w a b d Max
-op_same lines cells net w a b d Eq = plain_value lines cells net w a b d Eq
-op_same lines cells net w a b d Lt = plain_value lines cells net w a b d Lt
-op_same lines cells net w a b d Mux = plain_value lines cells net w a b d Mux
-op_same lines cells net w a b d (Shl by) = plain_value lines cells net w a b d (Shl by)
-op_same lines cells net w a b d (Shr by) = plain_value lines cells net w a b d (Shr by)
-op_same lines cells net w a b d SLt = plain_value lines cells net w a b d SLt
-op_same lines cells net w a b d SMin = plain_value lines cells net w a b d SMin
-op_same lines cells net w a b d SMax = plain_value lines cells net w a b d SMax
-op_same lines cells net w a b d (Sar by) = plain_value lines cells net w a b d (Sar by)
-op_same lines cells net w a b d (SCast to) = plain_value lines cells net w a b d (SCast to)
+        (plain_value lines cells net w a b d op)
+    choose false = plain_value lines cells net w a b d op
 
 line_same : (lines : ℕ → ℕ) (cells : List SizedCell) (net width : ℕ) (cell : Cell)
     → declaration_text lines cells net width cell ≡ cell_line lines cells net width cell

@@ -1,8 +1,9 @@
 -- A netlist as it is written, a line of text for each cell: the short form.
-use Rattle.std.specs.Prelude.{ℕ, ◌-◌, nat_lt, List, [], ◌++◌, length, codes, decimal, if◌then◌else◌}
+use Rattle.std.specs.Prelude.{ℕ, ◌-◌, ◌&&◌, nat_lt, List, [], ◌++◌, length, codes, decimal, if◌then◌else◌}
 use Rattle.std.specs.List.{flat_map}
+use Rattle.ae_word.specs.WordTable.{row_of}
 use Rattle.ae_word.specs.declared.op.WordOp.{WordOp}
-use Rattle.ae_word.specs.declared.op.WordOp.TheVariants.{Add, Sub, Mul, And, Or, Xor, Not, Min, Max, Eq, Lt, Mux, Shl, Shr, Cast}
+use Rattle.ae_word.specs.declared.op.WordOp.TheVariants.{Add, Sub, Mul, And, Or, Xor, Not, Min, Max, Eq, Lt, Mux, Shl, Shr, Cast, SLt, SMin, SMax, Sar, SCast}
 use Rattle.ae_netlist.specs.declared.cell.Cell.{Cell}
 use Rattle.ae_netlist.specs.declared.cell.Cell.TheVariants.{Input, Const, Op, Reg, Mem, Peek}
 use Rattle.ae_netlist.specs.declared.cell.SizedCell.{SizedCell}
@@ -33,7 +34,11 @@ op_line Mux w v a b c = a ++ arms_text b c
 op_line (Shl by) w v a b c = shift_text a (codes "<<") w by
 op_line (Shr by) w v a b c = shift_text a (codes ">>") w by
 op_line (Cast to) w v a b c = if nat_lt to v then a ++ (codes "[" ++ (decimal (to - 1) ++ (codes ":" ++ (decimal 0 ++ codes "]")))) else a
-op_line _ w v a b c = a
+op_line SLt w v a b c = a
+op_line SMin w v a b c = a
+op_line SMax w v a b c = a
+op_line (Sar by) w v a b c = a
+op_line (SCast to) w v a b c = a
 
 -- a net and its value
 abbrev pub wire : (lines : ℕ → ℕ) → (width net : ℕ) (value : List ℕ) → List ℕ
@@ -41,8 +46,7 @@ wire lines w n v = (codes "  wire " ++ (range_text w ++ (number_name lines n ++ 
 
 -- a cast to more bits says so to Verilator
 abbrev pub quiet : WordOp → (width wide : ℕ) (line : List ℕ) → List ℕ
-quiet (Cast to) w v line = if nat_lt v w then codes "  // verilator lint_off WIDTH\n" ++ (line ++ codes "  // verilator lint_on WIDTH\n") else line
-quiet _ w v line = line
+quiet op w v line = if (row_of op).casts && nat_lt v w then codes "  // verilator lint_off WIDTH\n" ++ (line ++ codes "  // verilator lint_on WIDTH\n") else line
 
 -- the declaration of a cell; an input has none, since it stands among the ports
 abbrev pub cell_line : (lines : ℕ → ℕ) (cells : List SizedCell) (net width : ℕ) → Cell → List ℕ
@@ -57,11 +61,14 @@ cell_line lines cells n w (Peek mem at) = wire lines w n (net_name lines cells m
 
 -- what a register takes at a clock edge, and where a memory is written
 abbrev pub edge_line : (lines : ℕ → ℕ) (cells : List SizedCell) (net : ℕ) → Cell → List ℕ
+edge_line lines cells n (Input port) = []
+edge_line lines cells n (Const k) = []
+edge_line lines cells n (Op op args) = []
 edge_line lines cells n (Reg next) = codes "  always @(posedge clk) " ++ (number_name lines n ++ (codes " <= " ++ (net_name lines cells next.0 ++ codes ";\n")))
 edge_line lines cells n (Mem depth at next enable) =
     codes "  always @(posedge clk) if (" ++ (net_name lines cells enable.0 ++ (codes ") " ++ (number_name lines n
     ++ (codes "[" ++ (net_name lines cells at.0 ++ (codes "] <= " ++ (net_name lines cells next.0 ++ codes ";\n")))))))
-edge_line lines cells n _ = []
+edge_line lines cells n (Peek mem at) = []
 
 -- the report lines, and the module: ports, cells with the notes before them, outputs, registers and memories; the names of nets
 -- tell the lines of the notes

@@ -66,7 +66,8 @@ fn push_input(widths: &mut Vec<u32>, sized: &SizedCell) -> Result<(), AllocError
 {
     match sized.cell {
         Cell::Input(_) => Ok(widths.push(sized.width)?),
-        _ => Ok(()),
+        Cell::Const(_) | Cell::Op(_, _) => Ok(()),
+        Cell::Reg { .. } | Cell::Mem { .. } | Cell::Peek { .. } => Ok(()),
     }
 }
 

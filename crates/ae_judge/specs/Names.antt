@@ -12,31 +12,52 @@ Among x (y ∷ ys) = (y ≡ x) ⊎ Among x ys
 -- what a name may be declared as
 abbrev pub is_input_kind : NetKind → Bool
 is_input_kind Input = true
-is_input_kind _ = false
+is_input_kind Wire = false
+is_input_kind OutWire = false
+is_input_kind Reg = false
+is_input_kind OutReg = false
+is_input_kind (Memory depth) = false
 
 abbrev pub is_wire_kind : NetKind → Bool
+is_wire_kind Input = false
 is_wire_kind Wire = true
 is_wire_kind OutWire = true
-is_wire_kind _ = false
+is_wire_kind Reg = false
+is_wire_kind OutReg = false
+is_wire_kind (Memory depth) = false
 
 abbrev pub is_register_kind : NetKind → Bool
+is_register_kind Input = false
+is_register_kind Wire = false
+is_register_kind OutWire = false
 is_register_kind Reg = true
 is_register_kind OutReg = true
-is_register_kind _ = false
+is_register_kind (Memory depth) = false
 
 abbrev pub is_memory_kind : NetKind → Bool
+is_memory_kind Input = false
+is_memory_kind Wire = false
+is_memory_kind OutWire = false
+is_memory_kind Reg = false
+is_memory_kind OutReg = false
 is_memory_kind (Memory depth) = true
-is_memory_kind _ = false
 
 abbrev pub is_output_kind : NetKind → Bool
+is_output_kind Input = false
+is_output_kind Wire = false
 is_output_kind OutWire = true
+is_output_kind Reg = false
 is_output_kind OutReg = true
-is_output_kind _ = false
+is_output_kind (Memory depth) = false
 
 -- how many words a memory has
 abbrev pub depth_of_kind : NetKind → ℕ
+depth_of_kind Input = 0
+depth_of_kind Wire = 0
+depth_of_kind OutWire = 0
+depth_of_kind Reg = 0
+depth_of_kind OutReg = 0
 depth_of_kind (Memory depth) = depth
-depth_of_kind _ = 0
 
 -- the declaration of a name, the first where there are more
 unfoldable pub net_named : List NetTree → List ℕ → Option NetTree

@@ -1,7 +1,7 @@
 -- The weight of a module, which bounds how large a netlist of it is.
 use Rattle.std.specs.Prelude.{ℕ, ◌+◌, length, sum_by}
 use Rattle.ae_vread.specs.declared.module.BinOp.{BinOp}
-use Rattle.ae_vread.specs.declared.module.BinOp.TheVariants.{Shl, Shr}
+use Rattle.ae_vread.specs.declared.module.BinOp.TheVariants.{Mul, Add, Sub, Shl, Shr, Lt, Le, Gt, Ge, Eq, Ne, And, Xor, Or, Both, Either}
 use Rattle.ae_vread.specs.ModuleTree.{ExprTree, name, constant, place, part, index, unary, binary, choice, concat_one, concat_more, StmtTree, set, put, when, either, block_end, block_more, DriveTree, ItemTree, nets, assigns, always, ModuleTree}
 
 -- a shift by no constant stands for six shifts by a constant, each with a choice
@@ -10,9 +10,22 @@ shift_weight (constant size value fits) = 1
 shift_weight _ = 6
 
 abbrev pub operator_weight : BinOp → ExprTree → ℕ
+operator_weight Mul amount = 1
+operator_weight Add amount = 1
+operator_weight Sub amount = 1
 operator_weight Shl amount = shift_weight amount
 operator_weight Shr amount = shift_weight amount
-operator_weight _ amount = 1
+operator_weight Lt amount = 1
+operator_weight Le amount = 1
+operator_weight Gt amount = 1
+operator_weight Ge amount = 1
+operator_weight Eq amount = 1
+operator_weight Ne amount = 1
+operator_weight And amount = 1
+operator_weight Xor amount = 1
+operator_weight Or amount = 1
+operator_weight Both amount = 1
+operator_weight Either amount = 1
 
 abbrev pub expr_weight : ExprTree → ℕ
 expr_weight (name n) = 0

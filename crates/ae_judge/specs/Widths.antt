@@ -3,7 +3,7 @@ use Rattle.std.specs.Prelude.{ℕ, ◌+◌, ◌-◌, max, if◌then◌else◌, L
 use Rattle.ae_vread.specs.declared.module.UnOp.{UnOp}
 use Rattle.ae_vread.specs.declared.module.UnOp.TheVariants.{Not, Flip}
 use Rattle.ae_vread.specs.declared.module.BinOp.{BinOp}
-use Rattle.ae_vread.specs.declared.module.BinOp.TheVariants.{Mul, Add, Sub, Shl, Shr, And, Xor, Or}
+use Rattle.ae_vread.specs.declared.module.BinOp.TheVariants.{Mul, Add, Sub, Shl, Shr, Lt, Le, Gt, Ge, Eq, Ne, And, Xor, Or, Both, Either}
 use Rattle.ae_vread.specs.ModuleTree.{ExprTree, name, constant, place, part, index, unary, binary, choice, concat_one, concat_more, NetTree}
 use Rattle.ae_judge.specs.Names.{net_named, is_memory_name}
 
@@ -24,12 +24,19 @@ abbrev pub binary_width : BinOp → (a b : ℕ) → ℕ
 binary_width Mul a b = max a b
 binary_width Add a b = max a b
 binary_width Sub a b = max a b
+binary_width Shl a b = a
+binary_width Shr a b = a
+binary_width Lt a b = 1
+binary_width Le a b = 1
+binary_width Gt a b = 1
+binary_width Ge a b = 1
+binary_width Eq a b = 1
+binary_width Ne a b = 1
 binary_width And a b = max a b
 binary_width Xor a b = max a b
 binary_width Or a b = max a b
-binary_width Shl a b = a
-binary_width Shr a b = a
-binary_width _ a b = 1
+binary_width Both a b = 1
+binary_width Either a b = 1
 
 -- the own width of an expression
 abbrev pub own_width : List NetTree → ExprTree → ℕ

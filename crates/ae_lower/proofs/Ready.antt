@@ -5,7 +5,7 @@ use Rattle.std.proofs.lemmas.List.{length-map}
 use Rattle.std.proofs.lemmas.Option.{slice_get-get_or}
 use Rattle.ae_word.specs.declared.op.WordOp.{WordOp}
 use Rattle.ae_word.specs.declared.op.WordOp.TheVariants.{Add, Sub, Mul, And, Or, Xor, Not, Min, Max, Eq, Lt, Mux, Shl, Shr, Cast, SLt, SMin, SMax, Sar, SCast}
-use Rattle.ae_word.specs.WordTable.{folds}
+use Rattle.ae_word.specs.WordTable.{folds, row_of}
 use Rattle.ae_netlist.specs.declared.cell.NetId.{NetId}
 use Rattle.ae_netlist.specs.declared.cell.SizedCell.{SizedCell}
 use Rattle.ae_sttype.specs.StTree.{StTree, atom, sseq, st_tree, time}
@@ -221,27 +221,27 @@ found_item cells s n args k a h found =
 
 -- ---- operators on words
 
-operands_some : (op : WordOp) (w : ℕ) → 1 ≤ length (operand_widths op w)
-operands_some Add w = omega arith
-operands_some Sub w = omega arith
-operands_some Mul w = omega arith
-operands_some And w = omega arith
-operands_some Or w = omega arith
-operands_some Xor w = omega arith
-operands_some Not w = omega arith
-operands_some Min w = omega arith
-operands_some Max w = omega arith
-operands_some Eq w = omega arith
-operands_some Lt w = omega arith
-operands_some Mux w = omega arith
-operands_some (Shl k) w = omega arith
-operands_some (Shr k) w = omega arith
-operands_some (Cast k) w = omega arith
-operands_some SLt w = omega arith
-operands_some SMin w = omega arith
-operands_some SMax w = omega arith
-operands_some (Sar k) w = omega arith
-operands_some (SCast k) w = omega arith
+main_within : (op : WordOp) (w : ℕ) → (row_of op).main < length (operand_widths op w)
+main_within Add w = omega arith
+main_within Sub w = omega arith
+main_within Mul w = omega arith
+main_within And w = omega arith
+main_within Or w = omega arith
+main_within Xor w = omega arith
+main_within Not w = omega arith
+main_within Min w = omega arith
+main_within Max w = omega arith
+main_within Eq w = omega arith
+main_within Lt w = omega arith
+main_within Mux w = omega arith
+main_within (Shl k) w = omega arith
+main_within (Shr k) w = omega arith
+main_within (Cast k) w = omega arith
+main_within SLt w = omega arith
+main_within SMin w = omega arith
+main_within SMax w = omega arith
+main_within (Sar k) w = omega arith
+main_within (SCast k) w = omega arith
 
 pub ready_word : (cells : List SizedCell) (s : StFuncTree) (n : StNodeTree) (args : List (List NetId)) (op : WordOp) → IsReady cells s n args → n.op ≡ word op
     → length n.args ≡ length (operand_widths op (width_of op (arguments_of s n)))
@@ -251,13 +251,6 @@ ready_word cells s n args op h e =
     length-map n.args (item_layout (item_layouts s)) in
     sym all ∙ (ap length fits.ins ∙ length-map (operand_widths op (width_of op (arguments_of s n))) word_stream)
 
-pub word_some : (cells : List SizedCell) (s : StFuncTree) (n : StNodeTree) (args : List (List NetId)) (op : WordOp) → IsReady cells s n args → n.op ≡ word op
-    → 0 < length n.args
-word_some cells s n args op h e = omega (arith, ready_word cells s n args op h e, operands_some op (width_of op (arguments_of s n)))
-
-pub choice_some : (cells : List SizedCell) (s : StFuncTree) (n : StNodeTree) (args : List (List NetId)) (op : WordOp) → IsReady cells s n args → n.op ≡ word op
-    → op ≡ Mux → 1 < length n.args
-choice_some cells s n args op h e is =
-    let w : ℕ = width_of op (arguments_of s n) in
-    let three : length (operand_widths op w) ≡ 3 = ap (λ o. length (operand_widths o w)) is in
-    omega (arith, ready_word cells s n args op h e, three)
+pub main_some : (cells : List SizedCell) (s : StFuncTree) (n : StNodeTree) (args : List (List NetId)) (op : WordOp) → IsReady cells s n args
+    → n.op ≡ word op → (row_of op).main < length n.args
+main_some cells s n args op h e = rw (ready_word cells s n args op h e) (main_within op (width_of op (arguments_of s n)))

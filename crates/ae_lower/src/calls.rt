@@ -319,7 +319,14 @@ fn lower_node(
                 sections,
             )
         }
-        _ => {
+        StOp::Word(_)
+        | StOp::Join
+        | StOp::First
+        | StOp::Second
+        | StOp::Fixed(_)
+        | StOp::Move(_)
+        | StOp::Fold { .. }
+        | StOp::Scan { .. } => {
             let alone = reads_alone(counts, node);
             build(alloc, nl, clocks, s, node, &args, at + start, alone)
         }

@@ -25,7 +25,7 @@ use ae_netlist::{NetFault, Netlist};
 use ae_ops::{Bundle, Stage, WordStage};
 use ae_reduce::Reduce;
 use ae_rewrite::{MoveOp, StFunc, StNode, StOp};
-use ae_word::WordOp;
+use ae_word::{WordOp, main_place};
 use std::alloc::{AllocError, Global};
 
 /// Builds a stage that does what a node does, within its costs. The instance and the node only say which node it is.
@@ -58,10 +58,7 @@ fn operation(op: WordOp, s: &StFunc, node: &StNode) -> WordStage
     requires is { (st_node_tree node.now).op ≡ word op }
     ensures { result ≡ record { op = op; width = width_of op (arguments_of (st_func_tree s.now) (st_node_tree node.now)); period = s.now.budget } }
 {
-    let main = match op {
-        WordOp::Mux => 1,
-        _ => 0,
-    };
+    let main = main_place(op) as usize;
     let width = first_width(layout(s, node.args[main] as usize));
     WordStage::new(op, width, s.budget)
 }

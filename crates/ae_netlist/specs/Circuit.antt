@@ -1,8 +1,8 @@
 -- A netlist as its sized cells in order; a net is the number of its cell.
 use Rattle.std.specs.Prelude.{◌≡◌, ℕ, ◌<◌, ◌≤◌, ◌^◌, ◌⊎◌, false, List, Option, Some, None, slice_get, get_or, take}
 use Rattle.ae_word.specs.declared.op.WordOp.{WordOp}
-use Rattle.ae_word.specs.declared.op.WordOp.TheVariants.{Mux}
-use Rattle.ae_word.specs.WordTable.{HasRange, result_width_of, is_signed}
+use Rattle.ae_word.specs.declared.op.WordOp.TheVariants.{Add, Sub, Mul, And, Or, Xor, Not, Min, Max, Eq, Lt, Mux, Shl, Shr, Cast, SLt, SMin, SMax, Sar, SCast}
+use Rattle.ae_word.specs.WordTable.{HasRange, result_width_of, is_signed, row_of}
 use Rattle.ae_netlist.specs.declared.cell.NetId.{NetId}
 use Rattle.ae_netlist.specs.declared.cell.Cell.{Cell}
 use Rattle.ae_netlist.specs.declared.cell.Cell.TheVariants.{Input, Const, Op, Reg, Mem, Peek}
@@ -17,8 +17,12 @@ pub record Circuit : Type 0 where
 
 -- the cell is no memory
 abbrev pub IsPlain : Cell → Type 0
+IsPlain (Input port) = Unit {0}
+IsPlain (Const k) = Unit {0}
+IsPlain (Op op args) = Unit {0}
+IsPlain (Reg next) = Unit {0}
 IsPlain (Mem depth at next enable) = ⊥
-IsPlain _ = Unit {0}
+IsPlain (Peek mem at) = Unit {0}
 
 -- there is such a net, of this width, and it is no memory
 pub record IsNet (cells : List SizedCell) (net width : ℕ) : Type 0 where
@@ -52,8 +56,12 @@ pub record IsMemory (cells : List SizedCell) (m width depth : ℕ) : Type 0 wher
   pub found : slice_get cells m ≡ Some (record { width = width; cell = Mem depth at next enable })
 
 abbrev pub depth_in_cell : Cell → ℕ
+depth_in_cell (Input port) = 0
+depth_in_cell (Const k) = 0
+depth_in_cell (Op op args) = 0
+depth_in_cell (Reg next) = 0
 depth_in_cell (Mem depth at next enable) = depth
-depth_in_cell _ = 0
+depth_in_cell (Peek mem at) = 0
 
 -- the depth of a memory, 0 where there is none
 abbrev pub depth_in : Option SizedCell → ℕ
@@ -85,13 +93,30 @@ operand args k = (get_or args k (record { 0 = 0 })).0
 
 -- the operand that has the width at which an operator works: the first, for a choice its first arm
 abbrev pub main_operand : WordOp → List NetId → ℕ
-main_operand Mux args = operand args 1
-main_operand _ args = operand args 0
+main_operand op args = operand args (row_of op).main
 
 -- the operands of an operator are nets of one width, but the condition of a choice has one bit
 abbrev pub OperandsAre : WordOp → (ℕ → ℕ → Type 0) → List NetId → ℕ → Type 0
+OperandsAre Add Net args w = Net (operand args 0) w × Net (operand args 1) w × Net (operand args 2) w
+OperandsAre Sub Net args w = Net (operand args 0) w × Net (operand args 1) w × Net (operand args 2) w
+OperandsAre Mul Net args w = Net (operand args 0) w × Net (operand args 1) w × Net (operand args 2) w
+OperandsAre And Net args w = Net (operand args 0) w × Net (operand args 1) w × Net (operand args 2) w
+OperandsAre Or Net args w = Net (operand args 0) w × Net (operand args 1) w × Net (operand args 2) w
+OperandsAre Xor Net args w = Net (operand args 0) w × Net (operand args 1) w × Net (operand args 2) w
+OperandsAre Not Net args w = Net (operand args 0) w × Net (operand args 1) w × Net (operand args 2) w
+OperandsAre Min Net args w = Net (operand args 0) w × Net (operand args 1) w × Net (operand args 2) w
+OperandsAre Max Net args w = Net (operand args 0) w × Net (operand args 1) w × Net (operand args 2) w
+OperandsAre Eq Net args w = Net (operand args 0) w × Net (operand args 1) w × Net (operand args 2) w
+OperandsAre Lt Net args w = Net (operand args 0) w × Net (operand args 1) w × Net (operand args 2) w
 OperandsAre Mux Net args w = Net (operand args 0) 1 × Net (operand args 1) w × Net (operand args 2) w
-OperandsAre _ Net args w = Net (operand args 0) w × Net (operand args 1) w × Net (operand args 2) w
+OperandsAre (Shl k) Net args w = Net (operand args 0) w × Net (operand args 1) w × Net (operand args 2) w
+OperandsAre (Shr k) Net args w = Net (operand args 0) w × Net (operand args 1) w × Net (operand args 2) w
+OperandsAre (Cast v) Net args w = Net (operand args 0) w × Net (operand args 1) w × Net (operand args 2) w
+OperandsAre SLt Net args w = Net (operand args 0) w × Net (operand args 1) w × Net (operand args 2) w
+OperandsAre SMin Net args w = Net (operand args 0) w × Net (operand args 1) w × Net (operand args 2) w
+OperandsAre SMax Net args w = Net (operand args 0) w × Net (operand args 1) w × Net (operand args 2) w
+OperandsAre (Sar k) Net args w = Net (operand args 0) w × Net (operand args 1) w × Net (operand args 2) w
+OperandsAre (SCast v) Net args w = Net (operand args 0) w × Net (operand args 1) w × Net (operand args 2) w
 
 -- an operator on nets; the operators that read their operands as signed stand in no netlist
 pub record IsOperation (cells : List SizedCell) (op : WordOp) (args : List NetId) (width : ℕ) : Type 0 where

@@ -2,33 +2,48 @@
 use Rattle.std.specs.Prelude.{◌≡◌, ℕ, ◌≤◌, ◌^◌, ◌≢◌, Bool, true, false, List, length, Some, slice_get, take}
 use Rattle.std.specs.List.{count_by, filter}
 use Rattle.ae_word.specs.declared.op.WordOp.{WordOp}
-use Rattle.ae_word.specs.declared.op.WordOp.TheVariants.{Mul}
+use Rattle.ae_word.specs.WordTable.{row_of}
 use Rattle.ae_netlist.specs.declared.cell.NetId.{NetId}
 use Rattle.ae_netlist.specs.declared.cell.Cell.{Cell}
-use Rattle.ae_netlist.specs.declared.cell.Cell.TheVariants.{Input, Op, Reg, Mem, Peek}
+use Rattle.ae_netlist.specs.declared.cell.Cell.TheVariants.{Input, Const, Op, Reg, Mem, Peek}
 use Rattle.ae_netlist.specs.declared.cell.SizedCell.{SizedCell}
 use Rattle.ae_netlist.specs.Circuit.{width_of}
 
 abbrev pub is_input : Cell → Bool
 is_input (Input port) = true
-is_input _ = false
+is_input (Const k) = false
+is_input (Op op args) = false
+is_input (Reg next) = false
+is_input (Mem depth at next enable) = false
+is_input (Peek mem at) = false
 
 abbrev pub is_register : Cell → Bool
+is_register (Input port) = false
+is_register (Const k) = false
+is_register (Op op args) = false
 is_register (Reg next) = true
-is_register _ = false
+is_register (Mem depth at next enable) = false
+is_register (Peek mem at) = false
 
 abbrev pub is_memory : Cell → Bool
+is_memory (Input port) = false
+is_memory (Const k) = false
+is_memory (Op op args) = false
+is_memory (Reg next) = false
 is_memory (Mem depth at next enable) = true
-is_memory _ = false
+is_memory (Peek mem at) = false
 
 abbrev pub is_product : WordOp → Bool
-is_product Mul = true
-is_product _ = false
+is_product op = (row_of op).multiplies
 
 -- an operator that multiplies
 abbrev pub is_mul : Cell → Bool
-is_mul (Op op args) = is_product op
-is_mul _ = false
+is_mul (Input port) = false
+is_mul (Const k) = false
+is_mul (Op op args) = (row_of op).multiplies
+is_mul (Reg next) = false
+is_mul (Mem depth at next enable) = false
+is_mul (Peek mem at) = false
 
 -- how many cells are of a kind
 abbrev pub count_of : (Cell → Bool) → List SizedCell → ℕ

@@ -1,10 +1,10 @@
 -- The runs of a netlist: lists of clocks that meet the equations of its cells, which have no order.
 use Rattle.std.specs.Prelude.{◌≡◌, ℕ, ◌+◌, ◌<◌, ◌≤◌, ◌^◌, ◌==◌, List, [], length, Some, slice_get, slice_set, get_or, All, if◌then◌else◌}
-use Rattle.ae_word.specs.WordTable.{word_result}
+use Rattle.ae_word.specs.WordTable.{row_of, word_result}
 use Rattle.ae_netlist.specs.declared.cell.Cell.{Cell}
 use Rattle.ae_netlist.specs.declared.cell.Cell.TheVariants.{Input, Const, Op, Reg, Mem, Peek}
 use Rattle.ae_netlist.specs.declared.cell.SizedCell.{SizedCell}
-use Rattle.ae_netlist.specs.Circuit.{IsNet, operand, main_operand, width_of, Extends}
+use Rattle.ae_netlist.specs.Circuit.{IsNet, operand, width_of, Extends}
 
 -- what stands in one clock, net by net: the word of each net, and the words of each memory
 pub record Clock : Type 0 where
@@ -36,7 +36,7 @@ abbrev pub Settles : List SizedCell → List Clock → ℕ → ℕ → Cell → 
 Settles cells run t net (Input port) = Unit {0}
 Settles cells run t net (Const k) = word_at run t net ≡ k
 Settles cells run t net (Op op args) =
-    word_at run t net ≡ word_result op (width_of cells (main_operand op args)) (word_at run t (operand args 0)) (word_at run t (operand args 1)) (word_at run t (operand args 2))
+    word_at run t net ≡ word_result op (width_of cells (operand args (row_of op).main)) (word_at run t (operand args 0)) (word_at run t (operand args 1)) (word_at run t (operand args 2))
 Settles cells run t net (Reg next) = Unit {0}
 Settles cells run t net (Mem depth at next enable) = Unit {0}
 Settles cells run t net (Peek mem at) = word_at run t net ≡ get_or (store_at run t mem.0) (word_at run t at.0) 0
@@ -49,11 +49,8 @@ Steps run t net (Op op args) = Unit {0}
 Steps run t net (Reg next) = word_at run (t + 1) net ≡ word_at run t next.0
 Steps run t net (Mem depth at next enable) =
     store_at run (t + 1) net
-    ≡ (if enable.0 == net
-    then store_at run t net
-    else (if word_at run t enable.0 == 1
-    then slice_set (store_at run t net) (word_at run t at.0) (word_at run t next.0)
-    else store_at run t net))
+    ≡ (if enable.0 == net then store_at run t net
+    else (if word_at run t enable.0 == 1 then slice_set (store_at run t net) (word_at run t at.0) (word_at run t next.0) else store_at run t net))
 Steps run t net (Peek mem at) = Unit {0}
 
 -- every clock has something for each net, and nothing more

@@ -225,7 +225,11 @@ impl Netlist {
     {
         match cell {
             Cell::Input(_) => self.append_input(SizedCell { width, cell }),
-            _ => self.append(SizedCell { width, cell }),
+            Cell::Const(_)
+            | Cell::Op(_, _)
+            | Cell::Reg { .. }
+            | Cell::Mem { .. }
+            | Cell::Peek { .. } => self.append(SizedCell { width, cell }),
         }
     }
 

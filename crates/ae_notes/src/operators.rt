@@ -13,7 +13,10 @@ fn as_written(op: WordOp) -> WordOp {
         WordOp::SMax => WordOp::Max,
         WordOp::Sar(by) => WordOp::Shr(by),
         WordOp::SCast(to) => WordOp::Cast(to),
-        _ => op,
+        WordOp::Add | WordOp::Sub | WordOp::Mul => op,
+        WordOp::And | WordOp::Or | WordOp::Xor | WordOp::Not => op,
+        WordOp::Min | WordOp::Max | WordOp::Eq | WordOp::Lt | WordOp::Mux => op,
+        WordOp::Shl(_) | WordOp::Shr(_) | WordOp::Cast(_) => op,
     }
 }
 
@@ -26,7 +29,10 @@ pub fn word_of(op: WordOp) -> &'static str {
 fn called(op: &Op) -> Option<u32> {
     match op {
         Op::Call(func) | Op::Map(func) | Op::Map2(func) => Some(*func),
-        _ => None,
+        Op::Word(_) | Op::CastInt(_) | Op::Const(_, _) | Op::Reduce(_) | Op::Scan(_) => None,
+        Op::Pair | Op::Fst | Op::Snd | Op::Zip => None,
+        Op::Shift(_) | Op::Up(_) | Op::Select(_) => None,
+        Op::Partition(_, _) | Op::Unpartition => None,
     }
 }
 

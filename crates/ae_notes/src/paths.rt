@@ -27,7 +27,10 @@ fn is_logic(op: WordOp) -> bool {
         WordOp::Shl(_) | WordOp::Shr(_) | WordOp::Sar(_) | WordOp::Cast(_) | WordOp::SCast(_) => {
             false
         }
-        _ => true,
+        WordOp::Add | WordOp::Sub | WordOp::Mul => true,
+        WordOp::And | WordOp::Or | WordOp::Xor | WordOp::Not => true,
+        WordOp::Min | WordOp::Max | WordOp::Eq | WordOp::Lt | WordOp::Mux => true,
+        WordOp::SLt | WordOp::SMin | WordOp::SMax => true,
     }
 }
 

@@ -1,7 +1,7 @@
 -- The cells of one operator, and what their nets hold.
 use Rattle.std.proofs.Common.{ℕ, ◌≡◌, ◌<◌, ◌≤◌, ◌^◌, false, List, ◌∷◌, [], length, get_or, Result, Ok, Err, OnOk, OnErr, IfOk, arith, refl, sym, ap, ◌∙◌}
 use Rattle.ae_word.specs.declared.op.WordOp.{WordOp}
-use Rattle.ae_word.specs.declared.op.WordOp.TheVariants.{Eq, Lt, Mul, Mux, Shr, Cast, SLt, SMin, SMax, Sar, SCast}
+use Rattle.ae_word.specs.declared.op.WordOp.TheVariants.{Eq, Lt, Mul, Mux, Shr, Cast, SLt, Sar, SCast}
 use Rattle.ae_word.specs.WordTable.{HasRange, arity_of, is_signed, result_width_of}
 use Rattle.ae_netlist.specs.declared.cell.NetId.{NetId}
 use Rattle.ae_netlist.specs.declared.cell.Cell.{Cell}
@@ -50,15 +50,6 @@ one_main _ a = refl
 pub no_product : (op : WordOp) → arity_of op ≡ 1 → is_product op ≡ false
 no_product Mul one = absurd (omega arith)
 no_product _ one = refl
-
-pub not_signed : (op : WordOp) → (op ≡ SLt → ⊥) → (op ≡ SMin → ⊥) → (op ≡ SMax → ⊥) → ((k : ℕ) → op ≡ Sar k → ⊥) → ((v : ℕ) → op ≡ SCast v → ⊥)
-    → is_signed op ≡ false
-not_signed SLt a b c d e = absurd (a refl)
-not_signed SMin a b c d e = absurd (b refl)
-not_signed SMax a b c d e = absurd (c refl)
-not_signed (Sar k) a b c d e = absurd (d k refl)
-not_signed (SCast v) a b c d e = absurd (e v refl)
-not_signed _ a b c d e = refl
 
 -- the widths of a pair of operands
 pub pair_operands : (op : WordOp) (P : ℕ → ℕ → Type 0) (args : List NetId) (w : ℕ) → arity_of op ≡ 2 → OperandsAre op P args w

@@ -9,12 +9,10 @@ use Rattle.ae_netlist.specs.declared.cell.NetId.{NetId}
 use Rattle.ae_netlist.specs.declared.cell.SizedCell.{SizedCell}
 use Rattle.ae_netlist.specs.Circuit.{IsNet, Extends, width_of}
 use Rattle.ae_netlist.proofs.Gets.{get_push_cases}
-use Rattle.ae_netlist.proofs.Growing.{extends_trans, net_later, net_width}
+use Rattle.ae_netlist.proofs.Growing.{net_later, net_width}
 use Rattle.ae_clocked.specs.Delays.{IsTap, greatest_of, line_cells}
 use Rattle.ae_clocked.specs.Rings.{rings}
-use Rattle.ae_clocked.specs.Phases.{Kept, KeepsCounters}
 use Rattle.ae_ops.specs.Waves.{AreLate, AreNets, HaveOwnWidths, wave_of}
-use Rattle.ae_clocked.proofs.InRow.{keeps_trans}
 use Rattle.ae_clocked.proofs.Making.{tap_grows}
 
 -- so many nets tap those at their places

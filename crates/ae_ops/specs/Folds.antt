@@ -2,21 +2,31 @@
 use Rattle.std.specs.Prelude.{ℕ, zero, suc, ◌^◌, nat_le}
 use Rattle.std.specs.List.{position_or_len, range_with_len}
 use Rattle.ae_word.specs.declared.op.WordOp.{WordOp}
-use Rattle.ae_word.specs.declared.op.WordOp.TheVariants.{Add, Mul, And, Or, Xor, Min, Max, SMin, SMax}
+use Rattle.ae_word.specs.declared.op.WordOp.TheVariants.{Add, Sub, Mul, And, Or, Xor, Not, Min, Max, Eq, Lt, Mux, Shl, Shr, Cast, SLt, SMin, SMax, Sar, SCast}
 use Rattle.ae_word.specs.WordTable.{word_result}
 
 -- an operator that may fold words of one kind: one of the seven, or a signed one of them
 abbrev pub IsFold : WordOp → Type 0
 IsFold Add = Unit {0}
+IsFold Sub = ⊥
 IsFold Mul = Unit {0}
 IsFold And = Unit {0}
 IsFold Or = Unit {0}
 IsFold Xor = Unit {0}
+IsFold Not = ⊥
 IsFold Min = Unit {0}
 IsFold Max = Unit {0}
+IsFold Eq = ⊥
+IsFold Lt = ⊥
+IsFold Mux = ⊥
+IsFold (Shl k) = ⊥
+IsFold (Shr k) = ⊥
+IsFold (Cast v) = ⊥
+IsFold SLt = ⊥
 IsFold SMin = Unit {0}
 IsFold SMax = Unit {0}
-IsFold _ = ⊥
+IsFold (Sar k) = ⊥
+IsFold (SCast v) = ⊥
 
 -- two words of width w, combined by an operator
 abbrev pub combine : WordOp → (w a b : ℕ) → ℕ

@@ -1,7 +1,7 @@
 -- The stage of one operator on words, which stand in the first clock of each period.
-use Rattle.std.specs.Prelude.{◌≡◌, ◌<◌, length, ℕ, ◌+◌, ◌*◌, nat_lt, if◌then◌else◌, List, [], ◌∷◌, map, replicate, get_or}
+use Rattle.std.specs.Prelude.{◌≡◌, ◌<◌, length, ℕ, ◌+◌, ◌*◌, nat_lt, if◌then◌else◌, List, [], ◌∷◌, map, get_or}
 use Rattle.ae_word.specs.declared.op.WordOp.{WordOp}
-use Rattle.ae_word.specs.declared.op.WordOp.TheVariants.{Mux}
+use Rattle.ae_word.specs.declared.op.WordOp.TheVariants.{Add, Sub, Mul, And, Or, Xor, Not, Min, Max, Eq, Lt, Mux, Shl, Shr, Cast, SLt, SMin, SMax, Sar, SCast}
 use Rattle.ae_word.specs.WordTable.{arity_of, latency_of, result_width_of, word_result}
 use Rattle.ae_netlist.specs.declared.cell.NetId.{NetId}
 use Rattle.ae_netlist.specs.Circuit.{operand}
@@ -15,8 +15,26 @@ word_stream w = record { slots = (record { clock = 0; lane = 0 }) ∷ []; lanes 
 
 -- the widths of an operator's operands: the condition of a choice has one bit
 abbrev pub operand_widths : WordOp → ℕ → List ℕ
+operand_widths Add w = w ∷ w ∷ []
+operand_widths Sub w = w ∷ w ∷ []
+operand_widths Mul w = w ∷ w ∷ []
+operand_widths And w = w ∷ w ∷ []
+operand_widths Or w = w ∷ w ∷ []
+operand_widths Xor w = w ∷ w ∷ []
+operand_widths Not w = w ∷ []
+operand_widths Min w = w ∷ w ∷ []
+operand_widths Max w = w ∷ w ∷ []
+operand_widths Eq w = w ∷ w ∷ []
+operand_widths Lt w = w ∷ w ∷ []
 operand_widths Mux w = 1 ∷ w ∷ w ∷ []
-operand_widths op w = replicate (arity_of op) w
+operand_widths (Shl k) w = w ∷ []
+operand_widths (Shr k) w = w ∷ []
+operand_widths (Cast v) w = w ∷ []
+operand_widths SLt w = w ∷ w ∷ []
+operand_widths SMin w = w ∷ w ∷ []
+operand_widths SMax w = w ∷ w ∷ []
+operand_widths (Sar k) w = w ∷ []
+operand_widths (SCast v) w = w ∷ []
 
 -- the one word of value k
 abbrev pub word_of : List (List ℕ) → ℕ → ℕ

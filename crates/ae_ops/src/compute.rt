@@ -35,7 +35,21 @@ pub fn compute(
         WordOp::SMax => greatest_signed(nl, args[0], args[1], width),
         WordOp::Sar(k) => by_sign(nl, args[0], WordOp::Shr(k), width),
         WordOp::SCast(v) => by_sign(nl, args[0], WordOp::Cast(v), width),
-        _ => operate(nl, op, args, result_width(op, width)),
+        WordOp::Add
+        | WordOp::Sub
+        | WordOp::Mul
+        | WordOp::And
+        | WordOp::Or
+        | WordOp::Xor
+        | WordOp::Not
+        | WordOp::Min
+        | WordOp::Max
+        | WordOp::Eq
+        | WordOp::Lt
+        | WordOp::Mux
+        | WordOp::Shl(_)
+        | WordOp::Shr(_)
+        | WordOp::Cast(_) => operate(nl, op, args, result_width(op, width)),
     }
 }
 

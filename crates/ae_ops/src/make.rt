@@ -44,7 +44,25 @@ pub fn make(nl: &mut Netlist, op: WordOp, args: [NetId; 3], width: u32) -> Resul
             let net = sum_of(nl, args[0], args[1], width)?;
             Ok(Made { net, late: 0 })
         }
-        _ => {
+        WordOp::Sub
+        | WordOp::Mul
+        | WordOp::And
+        | WordOp::Or
+        | WordOp::Xor
+        | WordOp::Not
+        | WordOp::Min
+        | WordOp::Max
+        | WordOp::Eq
+        | WordOp::Lt
+        | WordOp::Mux
+        | WordOp::Shl(_)
+        | WordOp::Shr(_)
+        | WordOp::Cast(_)
+        | WordOp::SLt
+        | WordOp::SMin
+        | WordOp::SMax
+        | WordOp::Sar(_)
+        | WordOp::SCast(_) => {
             let net = compute(nl, op, args, width)?;
             Ok(Made { net, late: 0 })
         }

@@ -66,7 +66,8 @@ fn gate_at(nl: &Netlist, net: NetId) -> Option<Gate>
             condition: args[0],
             word: args[2],
         }),
-        _ => None,
+        Cell::Input(_) | Cell::Const(_) | Cell::Op(_, _) => None,
+        Cell::Reg { .. } | Cell::Mem { .. } | Cell::Peek { .. } => None,
     }
 }
 
@@ -74,7 +75,11 @@ fn is_zero(nl: &Netlist, net: NetId) -> bool
     ensures { result ≡ true → IsConstantBelow nl.now.cells net.0 1 }
 {
     match nl.sized(net) {
-        Some(sized) => matches!(sized.cell, Cell::Const(0)),
+        Some(sized) => match sized.cell {
+            Cell::Const(k) => k == 0,
+            Cell::Input(_) | Cell::Op(_, _) => false,
+            Cell::Reg { .. } | Cell::Mem { .. } | Cell::Peek { .. } => false,
+        },
         None => false,
     }
 }

@@ -7,14 +7,14 @@ use Rattle.std.specs.Str.{bytes_eq}
 use Rattle.ae_word.specs.declared.op.WordOp.{WordOp}
 use Rattle.ae_word.specs.declared.op.WordOp.TheVariants.{Add, Sub, Mul, And, Or, Xor, Not, Min, Max, Eq, Lt, Mux, Shl, Shr, Cast, SLt, SMin, SMax, Sar, SCast}
 use Rattle.ae_word.specs.AtomTree.{word as atom_word}
-use Rattle.ae_word.specs.WordTable.{folds}
+use Rattle.ae_word.specs.WordTable.{folds, row_of}
 use Rattle.ae_seqtype.specs.SeqTree.{SeqTree, atom}
 use Rattle.ae_seqtype.specs.TypeText.{type_text}
 use Rattle.ae_seq.specs.ProgramTree.{OpTree, word, cast_int, pair, fst, snd, const, zip, call, each, each_two, reduce, scan, shift, up, select, partition, unpartition}
 use Rattle.ae_seq.specs.Formed.{is_line, is_spelled, within, has_arguments}
 use Rattle.ae_fields.specs.Number.{plain_of}
 use Rattle.ae_seq.specs.Typing.{where_ok, ◌>>=◌}
-use Rattle.ae_print.specs.Printed.{name_at, word_fields, op_fields, words_fit}
+use Rattle.ae_print.specs.Printed.{name_at, op_fields, words_fit}
 use Rattle.ae_fields.specs.Words.{first_of, bare_op, numbered_op, func_at, func_op, fold_op, cast_of, cast_op, headed_op, words_after, const_of, const_from, two_numbers, partition_from, with_arguments, headed_from, operator_from}
 use Rattle.ae_fields.proofs.PlainLemmas.{number-of-decimal}
 use Rattle.ae_print.proofs.TypeRead.{plain-read, type-read}
@@ -70,7 +70,7 @@ from-zero : (high k : ℕ) → nat_le k high ≡ true → within 0 high k ≡ tr
 from-zero high k h = and-both _ _ (le-leb 0 k (omega arith)) h
 
 reduce-read : (version n : ℕ) (names : List (List ℕ)) (op : WordOp) (rest : List (List ℕ)) → folds op ≡ true
-    → operator_from version n names (codes "reduce") (word_fields op ++ rest) ≡ Some (reduce op, rest)
+    → operator_from version n names (codes "reduce") ((row_of op).fields ++ rest) ≡ Some (reduce op, rest)
 reduce-read version n names Add rest h =
     headed-is version n names (codes "reduce") (codes "add") rest (reduce Add) refl refl refl
     (fold-first version n names (codes "reduce") (codes "add") (reduce Add) refl refl refl)
@@ -107,7 +107,7 @@ reduce-read version n names (Sar k) rest h = absurd cc
 reduce-read version n names (SCast k) rest h = absurd cc
 
 scan-read : (version n : ℕ) (names : List (List ℕ)) (op : WordOp) (rest : List (List ℕ)) → (version == 2) ≡ true → folds op ≡ true
-    → operator_from version n names (codes "scan") (word_fields op ++ rest) ≡ Some (scan op, rest)
+    → operator_from version n names (codes "scan") ((row_of op).fields ++ rest) ≡ Some (scan op, rest)
 scan-read version n names Add rest v h =
     headed-is version n names (codes "scan") (codes "add") rest (scan Add) refl refl refl
     (fold-first version n names (codes "scan") (codes "add") (scan Add) refl refl (ap (λ t. where_ok t (Some (scan Add))) v))
@@ -155,7 +155,7 @@ signed-spelled : (version v : ℕ) → (version == 2) ≡ true → within 1 64 v
 signed-spelled version v e h = and-both _ _ (and-both _ _ (and-both _ _ h refl) refl) (ap (λ t. t || false) e)
 
 word-op-read : (version n : ℕ) (names : List (List ℕ)) (op : WordOp) (rest : List (List ℕ)) → is_line version n (word op) ≡ true
-    → operator_on version n names (word_fields op ++ rest) ≡ Some (word op, rest)
+    → operator_on version n names ((row_of op).fields ++ rest) ≡ Some (word op, rest)
 word-op-read version n names Add rest h = refl
 word-op-read version n names Sub rest h = refl
 word-op-read version n names Mul rest h = refl

@@ -5,11 +5,11 @@ use Rattle.std.specs.Fmt.{decimal}
 use Rattle.std.specs.List.{list_all}
 use Rattle.ae_word.specs.declared.op.WordOp.{WordOp}
 use Rattle.ae_word.specs.declared.op.WordOp.TheVariants.{Add, Sub, Mul, And, Or, Xor, Not, Min, Max, Eq, Lt, Mux, Shl, Shr, Cast, SLt, SMin, SMax, Sar, SCast}
-use Rattle.ae_word.specs.WordTable.{folds}
+use Rattle.ae_word.specs.WordTable.{folds, row_of}
 use Rattle.ae_seqtype.specs.SeqTree.{parts_in_size, depth}
 use Rattle.ae_seq.specs.ProgramTree.{OpTree, word, cast_int, pair, fst, snd, const, zip, call, each, each_two, reduce, scan, shift, up, select, partition, unpartition, ParamTree, NodeTree, FuncTree, ProgramTree}
 use Rattle.ae_seq.specs.Formed.{all_below, all_distinct, all_names, formed, formed_func, formed_funcs, formed_nodes, formed_params, func_names, has_arguments, is_line, is_name, is_spelled, item_count, line_count, most_results, node_names, param_names, within}
-use Rattle.ae_print.specs.Printed.{name_at, word_fields, op_fields, words_fit, nodes_fit, funcs_fit, node_fields, param_field, end_fields, item_names, func_statements, funcs_statements, version_statements, statements}
+use Rattle.ae_print.specs.Printed.{name_at, op_fields, words_fit, nodes_fit, funcs_fit, node_fields, param_field, end_fields, item_names, func_statements, funcs_statements, version_statements, statements}
 use Rattle.ae_print.proofs.ProgramRead.{FuncFits, func-fits, length-params, length-nodes, length-names as length-funcs}
 use Rattle.ae_print.proofs.SolidForms.{solid-name, solid-decimal, solid-letter, solid-type, solid-param}
 use Rattle.ae_print.proofs.TextForms.{solid, stated, all-append}
@@ -25,7 +25,7 @@ width-solid v h = let l = leb-true v 64 (and-second (nat_le 1 v) _ h) in solid-l
 signed-solid : (v : ℕ) → within 1 64 v ≡ true → solid (105 ∷ decimal v) ≡ true
 signed-solid v h = let l = leb-true v 64 (and-second (nat_le 1 v) _ h) in solid-letter 105 v refl (omega arith)
 
-word-solid : (version n : ℕ) (op : WordOp) → is_line version n (word op) ≡ true → list_all solid (word_fields op) ≡ true
+word-solid : (version n : ℕ) (op : WordOp) → is_line version n (word op) ≡ true → list_all solid ((row_of op).fields) ≡ true
 word-solid version n Add h = refl
 word-solid version n Sub h = refl
 word-solid version n Mul h = refl
@@ -47,7 +47,7 @@ word-solid version n SMax h = absurd cc
 word-solid version n (Sar k) h = absurd cc
 word-solid version n (SCast k) h = absurd cc
 
-fold-solid : (op : WordOp) → folds op ≡ true → list_all solid (word_fields op) ≡ true
+fold-solid : (op : WordOp) → folds op ≡ true → list_all solid ((row_of op).fields) ≡ true
 fold-solid Add h = refl
 fold-solid Sub h = refl
 fold-solid Mul h = refl

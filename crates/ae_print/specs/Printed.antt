@@ -3,9 +3,9 @@ use Rattle.std.specs.Prelude.{ℕ, ◌+◌, ◌^◌, Bool, true, ◌==◌, nat_l
 use Rattle.std.specs.Fmt.{decimal}
 use Rattle.std.specs.List.{list_all}
 use Rattle.ae_word.specs.declared.op.WordOp.{WordOp}
-use Rattle.ae_word.specs.declared.op.WordOp.TheVariants.{Add, Sub, Mul, And, Or, Xor, Not, Min, Max, Eq, Lt, Mux, Shl, Shr, Cast}
+use Rattle.ae_word.specs.WordTable.{row_of}
 use Rattle.ae_seqtype.specs.TypeText.{type_text}
-use Rattle.ae_seq.specs.ProgramTree.{OpTree, word, cast_int, pair, fst, snd, const, zip, call, each, each_two, reduce, scan, shift, up, select, partition, unpartition, ParamTree, NodeTree, FuncTree, ProgramTree}
+use Rattle.ae_seq.specs.ProgramTree.{OpTree, ParamTree, NodeTree, FuncTree, ProgramTree, word, cast_int, pair, fst, snd, const, zip, call, each, each_two, reduce, scan, shift, up, select, partition, unpartition}
 use Rattle.ae_seq.specs.Formed.{param_names, node_names, func_names}
 
 -- ---- fields
@@ -14,28 +14,9 @@ use Rattle.ae_seq.specs.Formed.{param_names, node_names, func_names}
 abbrev pub name_at : List (List ℕ) → ℕ → List ℕ
 name_at names k = get_or names k []
 
--- an operator on words, with its number; the signed ones stand in no text, so they have a field that no line has
-abbrev pub word_fields : WordOp → List (List ℕ)
-word_fields Add = codes "add" ∷ []
-word_fields Sub = codes "sub" ∷ []
-word_fields Mul = codes "mul" ∷ []
-word_fields And = codes "and" ∷ []
-word_fields Or = codes "or" ∷ []
-word_fields Xor = codes "xor" ∷ []
-word_fields Not = codes "not" ∷ []
-word_fields Min = codes "min" ∷ []
-word_fields Max = codes "max" ∷ []
-word_fields Eq = codes "eq" ∷ []
-word_fields Lt = codes "lt" ∷ []
-word_fields Mux = codes "mux" ∷ []
-word_fields (Shl k) = codes "shl" ∷ decimal k ∷ []
-word_fields (Shr k) = codes "shr" ∷ decimal k ∷ []
-word_fields (Cast v) = codes "cast" ∷ (117 ∷ decimal v) ∷ []
-word_fields _ = [] ∷ []
-
 -- an operator and what belongs to it, by the names of the functions
 abbrev pub op_fields : (funcs : List (List ℕ)) → OpTree → List (List ℕ)
-op_fields funcs (word op) = word_fields op
+op_fields funcs (word op) = (row_of op).fields
 op_fields funcs (cast_int v) = codes "cast" ∷ (105 ∷ decimal v) ∷ []
 op_fields funcs pair = codes "pair" ∷ []
 op_fields funcs fst = codes "fst" ∷ []
@@ -45,8 +26,8 @@ op_fields funcs zip = codes "zip" ∷ []
 op_fields funcs (call f) = codes "call" ∷ name_at funcs f ∷ []
 op_fields funcs (each f) = codes "map" ∷ name_at funcs f ∷ []
 op_fields funcs (each_two f) = codes "map2" ∷ name_at funcs f ∷ []
-op_fields funcs (reduce op) = codes "reduce" ∷ word_fields op
-op_fields funcs (scan op) = codes "scan" ∷ word_fields op
+op_fields funcs (reduce op) = codes "reduce" ∷ (row_of op).fields
+op_fields funcs (scan op) = codes "scan" ∷ (row_of op).fields
 op_fields funcs (shift k) = codes "shift" ∷ decimal k ∷ []
 op_fields funcs (up n) = codes "up" ∷ decimal n ∷ []
 op_fields funcs (select k) = codes "select" ∷ decimal k ∷ []
@@ -126,8 +107,23 @@ numbered p = record { version = p.version; funcs = funcs_from (if p.version == 2
 -- ---- words of 64 bits
 
 abbrev pub words_fit : OpTree → Bool
+words_fit (word op) = true
+words_fit (cast_int v) = true
+words_fit pair = true
+words_fit fst = true
+words_fit snd = true
 words_fit (const t ws) = list_all (λ w. nat_lt w (2 ^ 64)) ws
-words_fit _ = true
+words_fit zip = true
+words_fit (call f) = true
+words_fit (each f) = true
+words_fit (each_two f) = true
+words_fit (reduce op) = true
+words_fit (scan op) = true
+words_fit (shift k) = true
+words_fit (up n) = true
+words_fit (select k) = true
+words_fit (partition n m) = true
+words_fit unpartition = true
 
 abbrev pub nodes_fit : List NodeTree → Bool
 nodes_fit ns = list_all (λ (n : NodeTree). words_fit n.op) ns

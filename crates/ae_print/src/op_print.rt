@@ -4,13 +4,13 @@ ghost use Rattle.std.specs.Prelude.{◌≡◌, ◌+◌, ◌<◌, ◌≤◌, ◌^
 ghost use Rattle.std.specs.List.{list_all};
 ghost use Rattle.std.specs.Fmt.{decimal};
 ghost use Rattle.std.specs.String.{string_bytes};
-ghost use Rattle.ae_word.specs.WordTable.{folds};
+ghost use Rattle.ae_word.specs.WordTable.{folds, row_of};
 ghost use Rattle.ae_seqtype.specs.SeqTree.{seq_tree};
 ghost use Rattle.ae_seqtype.specs.TypeText.{type_text};
 ghost use Rattle.ae_seq.specs.Formed.{all_below, func_names, is_line, node_names, param_names};
 ghost use Rattle.ae_seq.specs.ProgramTree.{op_tree};
 ghost use Rattle.ae_seq.specs.Trees.{func_trees, node_trees, param_trees};
-ghost use Rattle.ae_print.specs.Printed.{name_at, op_fields, spaced, word_fields, words_fit};
+ghost use Rattle.ae_print.specs.Printed.{name_at, op_fields, spaced, words_fit};
 
 use crate::op_names::{op_name, word_name};
 use ae_seq::{Func, Node, Op, Param};
@@ -75,7 +75,7 @@ fn put_words(out: &mut String, words: &[u64]) -> Result<(), AllocError>
 }
 
 fn put_word_op(out: &mut String, op: WordOp) -> Result<(), AllocError>
-    ensures { OnOk result (string_bytes out.new ≡ string_bytes out.old ++ spaced (word_fields op)) }
+    ensures { OnOk result (string_bytes out.new ≡ string_bytes out.old ++ spaced ((row_of op).fields)) }
 {
     match op {
         WordOp::Shl(k) | WordOp::Shr(k) => put_numbered(out, word_name(op), k),
@@ -102,7 +102,7 @@ fn put_word_op(out: &mut String, op: WordOp) -> Result<(), AllocError>
 
 // A word and a folding operator.
 fn put_fold(out: &mut String, word: &str, op: WordOp) -> Result<(), AllocError>
-    ensures { OnOk result (string_bytes out.new ≡ string_bytes out.old ++ spaced (word.now ∷ word_fields op)) }
+    ensures { OnOk result (string_bytes out.new ≡ string_bytes out.old ++ spaced (word.now ∷ (row_of op).fields)) }
 {
     put(out, word)?;
     put_word_op(out, op)

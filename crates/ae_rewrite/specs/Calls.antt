@@ -1,9 +1,9 @@
 -- Items of a function under a budget: their layouts, and what each node calls.
 use Rattle.std.specs.Prelude.{ℕ, ◌-◌, ◌*◌, ◌/◌, Bool, false, nat_eq, if◌then◌else◌, List, Option, Some, None, option_map, get_or}
 use Rattle.ae_word.specs.declared.op.WordOp.{WordOp}
-use Rattle.ae_word.specs.declared.op.WordOp.TheVariants.{Cast, Mux}
+use Rattle.ae_word.specs.declared.op.WordOp.TheVariants.{Cast}
 use Rattle.ae_word.specs.AtomTree.{word as atom_word}
-use Rattle.ae_word.specs.WordTable.{op_for}
+use Rattle.ae_word.specs.WordTable.{op_for, row_of}
 use Rattle.ae_seqtype.specs.SeqTree.{SeqTree, atom, seq, atoms}
 use Rattle.ae_seq.specs.ProgramTree.{ProgramTree, NodeTree, OpTree, word, cast_int, pair, fst, snd, const, zip, call, each, each_two, reduce, scan, shift, up, select, partition, unpartition}
 use Rattle.ae_seq.specs.Typing.{type_at, ◌>>=◌}
@@ -84,8 +84,7 @@ is_signed_type _ = false
 
 -- an operator goes by the kind of this argument: a choice by its arms
 abbrev pub deciding_argument : WordOp → List ℕ → ℕ
-deciding_argument Mux args = get_or args 1 0
-deciding_argument _ args = head args
+deciding_argument op args = get_or args (row_of op).main 0
 
 -- the operator by the kind of its deciding_argument
 abbrev pub op_by : ProgramTree → (func : ℕ) → WordOp → List ℕ → WordOp

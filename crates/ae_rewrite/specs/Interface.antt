@@ -2,8 +2,8 @@
 use Rattle.std.specs.Prelude.{◌≡◌, ℕ, ◌-◌, List, [], ◌∷◌, length, map, Option, Some, None, slice_get}
 use Rattle.ae_seqtype.specs.SeqTree.{SeqTree}
 use Rattle.ae_seqtype.specs.ValueTree.{ValueTree, Stands}
-use Rattle.ae_seq.specs.ProgramTree.{FuncTree, ProgramTree}
-use Rattle.ae_seq.specs.Typing.{◌>>=◌, param_types, type_at}
+use Rattle.ae_seq.specs.ProgramTree.{FuncTree, ParamTree, ProgramTree}
+use Rattle.ae_seq.specs.Typing.{◌>>=◌, type_at}
 use Rattle.ae_sttype.specs.StTree.{StTree}
 use Rattle.ae_rewrite.specs.LayoutRule.{lay_of}
 
@@ -14,7 +14,7 @@ main_of p = length p.funcs - 1
 
 abbrev pub types_in : Option FuncTree → List SeqTree
 types_in None = []
-types_in (Some f) = param_types f
+types_in (Some f) = map (λ (p : ParamTree). p.type) f.params
 
 abbrev pub results_in : Option FuncTree → List ℕ
 results_in None = []

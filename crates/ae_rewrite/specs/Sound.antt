@@ -45,14 +45,16 @@ pub record IsRawFor (budget : ℕ) (raw s : StTree) : Type 0 where
 abbrev pub IsSoundOp : (k budget : ℕ) → (args : List StTree) → (out : StTree) → StOpTree → Type 0
 IsSoundOp k budget as_all s (fixed ws) = FixedFits s ws
 IsSoundOp k budget (a ∷ []) s (move how) = (element_atom a ≡ element_atom s) × IsMoveFrom how (st_atoms a) (st_atoms s)
+IsSoundOp k budget as_all s (move how) = ⊥
 IsSoundOp k budget (a ∷ []) s (fold op slots lanes raw) = IsRawFor budget raw s × IsSpread slots lanes
+IsSoundOp k budget as_all s (fold op slots lanes raw) = ⊥
 IsSoundOp k budget (a ∷ []) s (scan op slots lanes) = IsSpread slots lanes
+IsSoundOp k budget as_all s (scan op slots lanes) = ⊥
 IsSoundOp k budget as_all s (body m) = m < k
 IsSoundOp k budget as_all s (word op) = Unit {0}
 IsSoundOp k budget as_all s join = Unit {0}
 IsSoundOp k budget as_all s first = Unit {0}
 IsSoundOp k budget as_all s second = Unit {0}
-IsSoundOp k budget _ s _ = ⊥
 
 -- a node below items of these layouts
 pub record IsSoundNode (k budget : ℕ) (layouts : List StTree) (n : StNodeTree) : Type 0 where

@@ -16,7 +16,7 @@ use crate::{Case, LayFault, MoveOp, StOp};
 use ae_seq::{Node, Op, Typed};
 use ae_seqtype::SeqType;
 use ae_sttype::StType;
-use ae_word::{Atom, WordOp, op_for};
+use ae_word::{Atom, WordOp, main_place, op_for};
 use std::alloc::{AllocError, Global};
 
 /// A function under a budget, in so many copies.
@@ -135,9 +135,9 @@ fn is_signed(t: Option<&SeqType>) -> bool
 fn operand(op: WordOp, args: &[u32]) -> u32
     ensures { result ≡ deciding_argument op args.now }
 {
-    match op {
-        WordOp::Mux => { if args.len() > 1 { args[1] } else { 0 } }
-        _ => head(args),
+    match args.get(main_place(op) as usize) {
+        Some(arg) => *arg,
+        None => 0,
     }
 }
 

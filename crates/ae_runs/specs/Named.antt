@@ -5,7 +5,7 @@ use Rattle.ae_netlist.specs.declared.cell.SizedCell.{SizedCell}
 use Rattle.ae_netlist.specs.Circuit.{IsNet, IsMemory}
 use Rattle.ae_netlist.specs.Runs.{Clock, word_at, store_at}
 use Rattle.ae_vread.specs.declared.module.NetKind.{NetKind}
-use Rattle.ae_vread.specs.declared.module.NetKind.TheVariants.{Memory}
+use Rattle.ae_vread.specs.declared.module.NetKind.TheVariants.{Input, Wire, OutWire, Reg, OutReg, Memory}
 use Rattle.ae_vread.specs.ModuleTree.{NetTree}
 use Rattle.ae_judge.specs.Names.{net_named, depth_of_kind}
 use Rattle.ae_runs.specs.Values.{ModuleClock}
@@ -27,8 +27,12 @@ pub record IsNamed (ns : List NetTree) (n : List ℕ) : Type 0 where
 
 -- what stands for a name of this kind
 abbrev pub StandsFor : NetKind → List SizedCell → (net width : ℕ) → Type 0
+StandsFor Input cells net width = IsNet cells net width
+StandsFor Wire cells net width = IsNet cells net width
+StandsFor OutWire cells net width = IsNet cells net width
+StandsFor Reg cells net width = IsNet cells net width
+StandsFor OutReg cells net width = IsNet cells net width
 StandsFor (Memory depth) cells net width = IsMemory cells net width depth
-StandsFor _ cells net width = IsNet cells net width
 
 -- the nets so far, by the places of their names
 pub record AreNets (ns : List NetTree) (nets : List (Option NetId)) (cells : List SizedCell) : Type 0 where

@@ -1,7 +1,7 @@
 -- The runs of a module: lists of clocks that meet its equations, which have no order.
 use Rattle.std.specs.Prelude.{ℕ, ◌≡◌, ◌+◌, ◌<◌, ◌≤◌, ◌^◌, false, List, [], ◌∷◌, length, get_or, All, codes}
 use Rattle.ae_vread.specs.declared.module.NetKind.{NetKind}
-use Rattle.ae_vread.specs.declared.module.NetKind.TheVariants.{Input, Reg, OutReg, Memory}
+use Rattle.ae_vread.specs.declared.module.NetKind.TheVariants.{Input, Wire, OutWire, Reg, OutReg, Memory}
 use Rattle.ae_vread.specs.ModuleTree.{NetTree, DriveTree, ItemTree, nets, assigns, always, ModuleTree}
 use Rattle.ae_judge.specs.Names.{Among, is_clock, equations}
 use Rattle.ae_runs.specs.Values.{ModuleClock, assigned, after_stmt}
@@ -14,8 +14,12 @@ clock_at run t = get_or run t idle_clock
 
 -- what a clock has for a name: a memory so many words of its width, and another name one word
 abbrev pub FitsKind : NetKind → (width word : ℕ) → (store : List ℕ) → Type 0
+FitsKind Input width word store = word < 2 ^ width
+FitsKind Wire width word store = word < 2 ^ width
+FitsKind OutWire width word store = word < 2 ^ width
+FitsKind Reg width word store = word < 2 ^ width
+FitsKind OutReg width word store = word < 2 ^ width
 FitsKind (Memory depth) width word store = (length store ≡ depth) × All (λ x. x < 2 ^ width) store
-FitsKind _ width word store = word < 2 ^ width
 
 -- a clock has something for each name but the clock
 pub record IsModuleShaped (m : ModuleTree) (c : ModuleClock) : Type 0 where
@@ -41,10 +45,12 @@ unfoldable pub next_clock : ModuleTree → ModuleClock → ModuleClock
 next_clock m c = after_items m.nets c m.items c
 
 abbrev pub StepsTo : NetKind → (word next_word : ℕ) → (store next_store : List ℕ) → Type 0
+StepsTo Input word next_word store next_store = Unit {0}
+StepsTo Wire word next_word store next_store = Unit {0}
+StepsTo OutWire word next_word store next_store = Unit {0}
 StepsTo Reg word next_word store next_store = next_word ≡ word
 StepsTo OutReg word next_word store next_store = next_word ≡ word
 StepsTo (Memory depth) word next_word store next_store = next_store ≡ store
-StepsTo _ word next_word store next_store = Unit {0}
 
 -- from a clock to the next, registers and memories change as the `always` items say, all together
 pub record IsStep (m : ModuleTree) (c d : ModuleClock) : Type 0 where
@@ -67,10 +73,11 @@ pub record IsResetRun (m : ModuleTree) (run : List ModuleClock) (start : ℕ) : 
 -- the words that a run may choose are the given ones: those of the inputs, and what registers and memories begin with
 abbrev pub ModuleAgreesAt : NetKind → (t : ℕ) → (word given_word : ℕ) → (store given_store : List ℕ) → Type 0
 ModuleAgreesAt Input t word given_word store given_store = word ≡ given_word
+ModuleAgreesAt Wire t word given_word store given_store = Unit {0}
+ModuleAgreesAt OutWire t word given_word store given_store = Unit {0}
 ModuleAgreesAt Reg t word given_word store given_store = t ≡ 0 → word ≡ given_word
 ModuleAgreesAt OutReg t word given_word store given_store = t ≡ 0 → word ≡ given_word
 ModuleAgreesAt (Memory depth) t word given_word store given_store = t ≡ 0 → store ≡ given_store
-ModuleAgreesAt _ t word given_word store given_store = Unit {0}
 
 pub record ModuleAgrees (m : ModuleTree) (t : ℕ) (given c : ModuleClock) : Type 0 where
   pub same : (x : NetTree) → Among x m.nets → is_clock m x.name ≡ false
@@ -84,8 +91,12 @@ pub record IsModuleRunOn (m : ModuleTree) (given run : List ModuleClock) : Type 
 
 -- the same words for a name
 abbrev pub SameAt : NetKind → (word other_word : ℕ) → (store other_store : List ℕ) → Type 0
+SameAt Input word other_word store other_store = word ≡ other_word
+SameAt Wire word other_word store other_store = word ≡ other_word
+SameAt OutWire word other_word store other_store = word ≡ other_word
+SameAt Reg word other_word store other_store = word ≡ other_word
+SameAt OutReg word other_word store other_store = word ≡ other_word
 SameAt (Memory depth) word other_word store other_store = store ≡ other_store
-SameAt _ word other_word store other_store = word ≡ other_word
 
 -- the same words for each name but the clock
 pub record IsSameClock (m : ModuleTree) (c d : ModuleClock) : Type 0 where

@@ -2,13 +2,13 @@
 use Rattle.std.specs.Prelude.{ℕ, ◌≡◌, ◌<◌, Bool, true, false, not, ◌&&◌, ◌||◌, List, [], ◌∷◌, length, map, filter, Option, Some, None}
 use Rattle.std.specs.List.{enumerate_from}
 use Rattle.ae_netlist.specs.declared.cell.Cell.{Cell}
-use Rattle.ae_netlist.specs.declared.cell.Cell.TheVariants.{Input, Reg, Mem}
+use Rattle.ae_netlist.specs.declared.cell.Cell.TheVariants.{Input, Const, Op, Reg, Mem, Peek}
 use Rattle.ae_netlist.specs.declared.cell.SizedCell.{SizedCell}
 use Rattle.ae_netlist.specs.declared.cell.Outlet.{Outlet}
 use Rattle.ae_netlist.specs.Circuit as circuit
 use Rattle.ae_netlist.specs.Runs as netlist
 use Rattle.ae_vread.specs.declared.module.NetKind.{NetKind}
-use Rattle.ae_vread.specs.declared.module.NetKind.TheVariants.{Memory}
+use Rattle.ae_vread.specs.declared.module.NetKind.TheVariants.{Input as InputName, Wire, OutWire, Reg as RegName, OutReg, Memory}
 use Rattle.ae_vread.specs.ModuleTree.{NetTree, ModuleTree}
 use Rattle.ae_judge.specs.Names.{is_input_kind, is_register_kind, is_memory_kind, is_output_kind, is_clock}
 use Rattle.ae_runs.specs.Values.{ModuleClock}
@@ -26,12 +26,19 @@ states_of m = filter (λ (x : NetTree). is_register_kind x.kind || is_memory_kin
 
 abbrev pub is_input_cell : Cell → Bool
 is_input_cell (Input port) = true
-is_input_cell _ = false
+is_input_cell (Const k) = false
+is_input_cell (Op op args) = false
+is_input_cell (Reg next) = false
+is_input_cell (Mem depth at next enable) = false
+is_input_cell (Peek mem at) = false
 
 abbrev pub is_state_cell : Cell → Bool
+is_state_cell (Input port) = false
+is_state_cell (Const k) = false
+is_state_cell (Op op args) = false
 is_state_cell (Reg next) = true
 is_state_cell (Mem depth at next enable) = true
-is_state_cell _ = false
+is_state_cell (Peek mem at) = false
 
 -- the inputs, and the registers and memories, of a netlist, in order, with their numbers
 abbrev pub input_cells : List SizedCell → List (ℕ × SizedCell)
@@ -42,21 +49,37 @@ state_cells cells = filter (λ (x : ℕ × SizedCell). is_state_cell x.1.cell) (
 
 -- how many words a memory has; a register has no depth
 abbrev pub kind_depth : NetKind → Option ℕ
+kind_depth InputName = None
+kind_depth Wire = None
+kind_depth OutWire = None
+kind_depth RegName = None
+kind_depth OutReg = None
 kind_depth (Memory depth) = Some depth
-kind_depth _ = None
 
 abbrev pub cell_depth : Cell → Option ℕ
+cell_depth (Input port) = None
+cell_depth (Const k) = None
+cell_depth (Op op args) = None
+cell_depth (Reg next) = None
 cell_depth (Mem depth at next enable) = Some depth
-cell_depth _ = None
+cell_depth (Peek mem at) = None
 
 -- the words that a register or a memory holds
 abbrev pub kind_words : NetKind → (word : ℕ) → (store : List ℕ) → List ℕ
+kind_words InputName word store = word ∷ []
+kind_words Wire word store = word ∷ []
+kind_words OutWire word store = word ∷ []
+kind_words RegName word store = word ∷ []
+kind_words OutReg word store = word ∷ []
 kind_words (Memory depth) word store = store
-kind_words _ word store = word ∷ []
 
 abbrev pub cell_words : Cell → (word : ℕ) → (store : List ℕ) → List ℕ
+cell_words (Input port) word store = word ∷ []
+cell_words (Const k) word store = word ∷ []
+cell_words (Op op args) word store = word ∷ []
+cell_words (Reg next) word store = word ∷ []
 cell_words (Mem depth at next enable) word store = store
-cell_words _ word store = word ∷ []
+cell_words (Peek mem at) word store = word ∷ []
 
 -- a clock of a module: the words of its inputs, of its outputs, and those that its registers and memories hold
 abbrev pub input_words : ModuleTree → ModuleClock → List ℕ

@@ -27,28 +27,40 @@ operand_width Flip w a = w
 -- the widths at which both operands are computed, where w is handed down, and a and b are their own: a comparison is
 -- made at the greater of these two, a test and the amount of a shift at their own
 abbrev pub left_width : BinOp → (w a b : ℕ) → ℕ
+left_width Mul w a b = w
+left_width Add w a b = w
+left_width Sub w a b = w
+left_width Shl w a b = w
+left_width Shr w a b = w
 left_width Lt w a b = max a b
 left_width Le w a b = max a b
 left_width Gt w a b = max a b
 left_width Ge w a b = max a b
 left_width Eq w a b = max a b
 left_width Ne w a b = max a b
+left_width And w a b = w
+left_width Xor w a b = w
+left_width Or w a b = w
 left_width Both w a b = a
 left_width Either w a b = a
-left_width _ w a b = w
 
 abbrev pub right_width : BinOp → (w a b : ℕ) → ℕ
+right_width Mul w a b = w
+right_width Add w a b = w
+right_width Sub w a b = w
+right_width Shl w a b = b
+right_width Shr w a b = b
 right_width Lt w a b = max a b
 right_width Le w a b = max a b
 right_width Gt w a b = max a b
 right_width Ge w a b = max a b
 right_width Eq w a b = max a b
 right_width Ne w a b = max a b
+right_width And w a b = w
+right_width Xor w a b = w
+right_width Or w a b = w
 right_width Both w a b = b
 right_width Either w a b = b
-right_width Shl w a b = b
-right_width Shr w a b = b
-right_width _ w a b = w
 
 -- the result at width w
 abbrev pub binary_result : BinOp → (w a b : ℕ) → ℕ

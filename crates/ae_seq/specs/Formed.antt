@@ -62,6 +62,18 @@ is_spelled version t = parts_in_size t && nat_le (depth t) 6 && ((version == 2) 
 -- ---- operators: their numbers, and what is there in version 2 alone
 
 abbrev pub is_word_line : WordOp → Bool
+is_word_line Add = true
+is_word_line Sub = true
+is_word_line Mul = true
+is_word_line And = true
+is_word_line Or = true
+is_word_line Xor = true
+is_word_line Not = true
+is_word_line Min = true
+is_word_line Max = true
+is_word_line Eq = true
+is_word_line Lt = true
+is_word_line Mux = true
 is_word_line (Shl k) = nat_le k 63
 is_word_line (Shr k) = nat_le k 63
 is_word_line (Cast v) = within 1 64 v
@@ -70,13 +82,16 @@ is_word_line SMin = false
 is_word_line SMax = false
 is_word_line (Sar k) = false
 is_word_line (SCast v) = false
-is_word_line _ = true
 
 -- funcs is the number of functions above
 abbrev pub is_line : (version funcs : ℕ) → OpTree → Bool
 is_line version funcs (word op) = is_word_line op
 is_line version funcs (cast_int v) = (version == 2) && within 1 64 v
+is_line version funcs pair = true
+is_line version funcs fst = true
+is_line version funcs snd = true
 is_line version funcs (const t ws) = is_spelled version t
+is_line version funcs zip = true
 is_line version funcs (call f) = nat_lt f funcs
 is_line version funcs (each f) = nat_lt f funcs
 is_line version funcs (each_two f) = nat_lt f funcs
@@ -86,17 +101,27 @@ is_line version funcs (shift k) = nat_le k 4096
 is_line version funcs (up n) = within 1 4096 n
 is_line version funcs (select k) = nat_le k 4096
 is_line version funcs (partition n m) = within 1 4096 n && within 1 4096 m
-is_line version funcs _ = true
+is_line version funcs unpartition = true
 
 -- as many arguments as the line form has
 abbrev pub has_arguments : OpTree → ℕ → Bool
 has_arguments (word op) n = n == arity_of op
+has_arguments (cast_int v) n = n == 1
 has_arguments pair n = n == 2
+has_arguments fst n = n == 1
+has_arguments snd n = n == 1
 has_arguments (const t ws) n = n == 0
 has_arguments zip n = n == 2
 has_arguments (call f) n = within 1 8 n
+has_arguments (each f) n = n == 1
 has_arguments (each_two f) n = n == 2
-has_arguments _ n = n == 1
+has_arguments (reduce op) n = n == 1
+has_arguments (scan op) n = n == 1
+has_arguments (shift k) n = n == 1
+has_arguments (up k) n = n == 1
+has_arguments (select k) n = n == 1
+has_arguments (partition k m) n = n == 1
+has_arguments unpartition n = n == 1
 
 -- ---- functions
 

@@ -1,9 +1,9 @@
 -- What a program computes, on values as nested lists.
 use Rattle.std.specs.Prelude.{◌≡◌, ℕ, zero, suc, ◌+◌, ◌-◌, ◌*◌, Bool, true, false, List, [], ◌∷◌, ◌++◌, length, take, drop, map, get_or}
 use Rattle.ae_word.specs.declared.op.WordOp.{WordOp}
-use Rattle.ae_word.specs.declared.op.WordOp.TheVariants.{Add, Sub, Mul, And, Or, Xor, Not, Min, Max, Eq, Lt, Mux, Shl, Shr, Cast, SLt, SMin, SMax, Sar, SCast}
+use Rattle.ae_word.specs.declared.op.WordOp.TheVariants.{Cast}
 use Rattle.ae_word.specs.AtomTree.{WordKind}
-use Rattle.ae_word.specs.WordTable.{op_for, word_result, arity_of}
+use Rattle.ae_word.specs.WordTable.{op_for, row_of, word_result, arity_of}
 use Rattle.ae_seqtype.specs.SeqTree.{repeated}
 use Rattle.ae_seqtype.specs.ValueTree.{ValueTree, number, both, end, more, listed, elements, zeroed, cut, value_of}
 use Rattle.ae_seq.specs.ProgramTree.{OpTree, word, cast_int, pair, fst, snd, const, zip, call, each, each_two, reduce, scan, shift, up, select, partition, unpartition, NodeTree, FuncTree, ProgramTree}
@@ -34,26 +34,15 @@ abbrev pub code_in : ValueTree → ℕ
 code_in (number k n) = n
 code_in _ = 0
 
--- the kind of an operator's result on words of a kind
-abbrev pub result_kind : WordOp → WordKind → WordKind
-result_kind Eq k = record { signed = false; width = 1 }
-result_kind Lt k = record { signed = false; width = 1 }
-result_kind (Cast v) k = record { signed = false; width = v }
-result_kind _ k = k
-
 -- an operator on codes of a kind, by that kind
 abbrev pub coded : WordOp → WordKind → (a b c : ℕ) → ℕ
 coded op k a b c = word_result (op_for k.signed op) k.width a b c
 
--- the kind of an operator's operands, of a choice that of its arms
-abbrev pub operand_kind : WordOp → List ValueTree → WordKind
-operand_kind Mux vs = kind_in (at vs 1)
-operand_kind _ vs = kind_in (at vs 0)
-
+-- an operator on words: of a choice the arms tell the kind
 abbrev pub word_value : WordOp → List ValueTree → ValueTree
 word_value op vs =
-    let k = operand_kind op vs in
-    number (result_kind op k) (coded op k (code_in (at vs 0)) (code_in (at vs 1)) (code_in (at vs 2)))
+    let k = kind_in (at vs (row_of op).main) in
+    number ((row_of op).result k) (coded op k (code_in (at vs 0)) (code_in (at vs 1)) (code_in (at vs 2)))
 
 abbrev pub cast_value : ℕ → ValueTree → ValueTree
 cast_value v x = number (record { signed = true; width = v }) (coded (Cast v) (kind_in x) (code_in x) 0 0)
@@ -148,10 +137,6 @@ meaning known f vs = map (at (item_values known f vs)) f.results
 abbrev pub meanings : List FuncTree → List Meaning
 meanings fs = grown meaning [] fs
 
--- the results of function number f on these arguments, where there is such a function
-abbrev pub mean_of : ProgramTree → (func : ℕ) → List ValueTree → List ValueTree
-mean_of p f vs = get_or (meanings p.funcs) f no_function vs
-
 -- the results of the program function
 abbrev pub mean : ProgramTree → List ValueTree → List ValueTree
-mean p vs = mean_of p (length p.funcs - 1) vs
+mean p vs = get_or (meanings p.funcs) (length p.funcs - 1) no_function vs

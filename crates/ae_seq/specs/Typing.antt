@@ -25,7 +25,8 @@ grown step known (x ∷ xs) = grown step (known ++ step known x ∷ []) xs
 
 abbrev pub kind_of : SeqTree → Option WordKind
 kind_of (atom (atom_word k)) = Some k
-kind_of _ = None
+kind_of (atom (atom_pair a b)) = None
+kind_of (seq n t) = None
 
 -- one word; two words of one kind; a bit and two words of one kind: the type of the last
 abbrev pub one_word : List SeqTree → Option SeqTree
@@ -60,59 +61,69 @@ word_type Mux ts = bit_and_two_words ts
 word_type (Shl k) ts = one_word ts
 word_type (Shr k) ts = one_word ts
 word_type (Cast v) ts = as_word (unsigned_word v) (one_word ts)
-word_type _ ts = None
+word_type SLt ts = None
+word_type SMin ts = None
+word_type SMax ts = None
+word_type (Sar k) ts = None
+word_type (SCast v) ts = None
 
 -- ---- lines on atoms and sequences
 
 abbrev pub pair_type : SeqTree → SeqTree → Option SeqTree
 pair_type (atom a) (atom b) = Some (atom (atom_pair a b))
-pair_type _ _ = None
+pair_type (atom a) (seq m u) = None
+pair_type (seq n t) u = None
 
 abbrev pub fst_type : SeqTree → Option SeqTree
 fst_type (atom (atom_pair a b)) = Some (atom a)
-fst_type _ = None
+fst_type (atom (atom_word k)) = None
+fst_type (seq n t) = None
 
 abbrev pub snd_type : SeqTree → Option SeqTree
 snd_type (atom (atom_pair a b)) = Some (atom b)
-snd_type _ = None
+snd_type (atom (atom_word k)) = None
+snd_type (seq n t) = None
 
 -- equal lengths at every level
 abbrev pub zipped_type : SeqTree → SeqTree → Option SeqTree
 zipped_type (atom a) (atom b) = Some (atom (atom_pair a b))
 zipped_type (seq n t) (seq m u) = where_ok (n == m) (zipped_type t u >>= λ v. Some (seq n v))
-zipped_type _ _ = None
+zipped_type (atom a) (seq m u) = None
+zipped_type (seq n t) (atom b) = None
 
 abbrev pub zip_type : SeqTree → SeqTree → Option SeqTree
 zip_type (seq n t) (seq m u) = zipped_type (seq n t) (seq m u)
-zip_type _ _ = None
+zip_type (atom a) u = None
+zip_type (seq n t) (atom b) = None
 
 abbrev pub reduce_type : SeqTree → Option SeqTree
 reduce_type (seq n t) = Some (seq 1 t)
-reduce_type _ = None
+reduce_type (atom a) = None
 
 abbrev pub scan_type : SeqTree → Option SeqTree
 scan_type (seq n t) = Some (seq n t)
-scan_type _ = None
+scan_type (atom a) = None
 
 abbrev pub shift_type : ℕ → SeqTree → Option SeqTree
 shift_type k (seq n t) = where_ok (nat_le k n) (Some (seq n t))
-shift_type k _ = None
+shift_type k (atom a) = None
 
 abbrev pub up_type : ℕ → SeqTree → Option SeqTree
 up_type n (seq m t) = where_ok (m == 1) (Some (seq n t))
-up_type n _ = None
+up_type n (atom a) = None
 
 abbrev pub select_type : ℕ → SeqTree → Option SeqTree
 select_type k (seq n t) = where_ok (nat_lt k n) (Some (seq 1 t))
-select_type k _ = None
+select_type k (atom a) = None
 
 abbrev pub partition_type : ℕ → ℕ → SeqTree → Option SeqTree
 partition_type n m (seq k t) = where_ok (k == n * m) (Some (seq n (seq m t)))
-partition_type n m _ = None
+partition_type n m (atom a) = None
 
 abbrev pub unpartition_type : SeqTree → Option SeqTree
 unpartition_type (seq n (seq m t)) = Some (seq (n * m) t)
-unpartition_type _ = None
+unpartition_type (atom a) = None
+unpartition_type (seq n (atom a)) = None
 
 -- ---- calls
 
@@ -133,11 +144,12 @@ called known f ts = slice_get known f >>= λ s. where_ok (same_types s.params ts
 -- the function on each element, on the elements of two sequences in pairs
 abbrev pub each_type : List Signature → ℕ → SeqTree → Option SeqTree
 each_type known f (seq n t) = called known f (t ∷ []) >>= λ u. Some (seq n u)
-each_type known f _ = None
+each_type known f (atom a) = None
 
 abbrev pub each_two_type : List Signature → ℕ → SeqTree → SeqTree → Option SeqTree
 each_two_type known f (seq n t) (seq m u) = where_ok (n == m) (called known f (t ∷ u ∷ []) >>= λ v. Some (seq n v))
-each_two_type known f _ _ = None
+each_two_type known f (atom a) u = None
+each_two_type known f (seq n t) (atom b) = None
 
 -- ---- the table: the type of a line's result on arguments of these types, if it has one
 
@@ -145,21 +157,34 @@ abbrev pub op_type : List Signature → OpTree → List SeqTree → Option SeqTr
 op_type known (word op) ts = word_type op ts
 op_type known (cast_int v) ts = as_word (signed_word v) (one_word ts)
 op_type known pair (t ∷ u ∷ []) = pair_type t u
+op_type known pair ts = None
 op_type known fst (t ∷ []) = fst_type t
+op_type known fst ts = None
 op_type known snd (t ∷ []) = snd_type t
+op_type known snd ts = None
 op_type known (const t ws) [] = where_ok (fit_kinds ws (kinds t)) (Some t)
+op_type known (const t ws) ts = None
 op_type known zip (t ∷ u ∷ []) = zip_type t u
+op_type known zip ts = None
 op_type known (call f) ts = called known f ts
 op_type known (each f) (t ∷ []) = each_type known f t
+op_type known (each f) ts = None
 op_type known (each_two f) (t ∷ u ∷ []) = each_two_type known f t u
+op_type known (each_two f) ts = None
 op_type known (reduce op) (t ∷ []) = reduce_type t
+op_type known (reduce op) ts = None
 op_type known (scan op) (t ∷ []) = scan_type t
+op_type known (scan op) ts = None
 op_type known (shift k) (t ∷ []) = shift_type k t
+op_type known (shift k) ts = None
 op_type known (up n) (t ∷ []) = up_type n t
+op_type known (up n) ts = None
 op_type known (select k) (t ∷ []) = select_type k t
+op_type known (select k) ts = None
 op_type known (partition n m) (t ∷ []) = partition_type n m t
+op_type known (partition n m) ts = None
 op_type known unpartition (t ∷ []) = unpartition_type t
-op_type known _ _ = None
+op_type known unpartition ts = None
 
 -- ---- items
 

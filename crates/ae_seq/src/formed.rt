@@ -243,7 +243,9 @@ fn is_word_line(op: WordOp) -> bool
         WordOp::Shl(k) | WordOp::Shr(k) => k <= 63,
         WordOp::Cast(v) => within(1, 64, v),
         WordOp::SLt | WordOp::SMin | WordOp::SMax | WordOp::Sar(_) | WordOp::SCast(_) => false,
-        _ => true,
+        WordOp::Add | WordOp::Sub | WordOp::Mul => true,
+        WordOp::And | WordOp::Or | WordOp::Xor | WordOp::Not => true,
+        WordOp::Min | WordOp::Max | WordOp::Eq | WordOp::Lt | WordOp::Mux => true,
     }
 }
 

@@ -60,4 +60,5 @@ few n = if nat_le n 16384 then Some n else None
 abbrev pub same_type : SeqTree → SeqTree → Bool
 same_type (atom a) (atom b) = same_atom a b
 same_type (seq n t) (seq m u) = n == m && same_type t u
-same_type _ _ = false
+same_type (atom a) (seq m u) = false
+same_type (seq n t) (atom b) = false

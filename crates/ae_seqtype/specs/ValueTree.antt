@@ -65,7 +65,7 @@ Fit t ws = FitKinds ws (kinds t)
 
 -- the words are those of this value of the type
 pub record Stands (t : SeqTree) (ws : List ℕ) (v : ValueTree) : Type 0 where
-  pub fits : Fit t ws
+  pub fits : FitKinds ws (kinds t)
   pub value : value_of t ws ≡ v
 
 -- what is left after a word for each kind, if each fits

@@ -2,7 +2,7 @@
 use Rattle.std.specs.Prelude.{◌≡◌, ◌≢◌, ℕ, suc, ◌+◌, ◌<◌, ◌≤◌, ◌==◌, Bool, List, [], ◌∷◌, ◌++◌, length, map, take, drop, Some, slice_get, get_or}
 use Rattle.std.specs.List.{filter}
 use Rattle.ae_netlist.specs.declared.cell.Cell.{Cell}
-use Rattle.ae_netlist.specs.declared.cell.Cell.TheVariants.{Reg, Mem}
+use Rattle.ae_netlist.specs.declared.cell.Cell.TheVariants.{Input, Const, Op, Reg, Mem, Peek}
 use Rattle.ae_netlist.specs.declared.cell.SizedCell.{SizedCell}
 use Rattle.ae_netlist.specs.Circuit.{Circuit, IsNet}
 use Rattle.ae_netlist.specs.Runs.{Clock, no_clock, word_at, store_at, IsRun}
@@ -35,9 +35,12 @@ seen_part more by count t run = map (inner_clock more count) (until (is_one by) 
 
 -- what a register and a memory hold in a clock is what they hold in the next
 abbrev pub Stays : List Clock → (t net : ℕ) → Cell → Type 0
+Stays run t net (Input port) = Unit {0}
+Stays run t net (Const k) = Unit {0}
+Stays run t net (Op op args) = Unit {0}
 Stays run t net (Reg next) = word_at run (t + 1) net ≡ word_at run t net
 Stays run t net (Mem depth at next enable) = store_at run (t + 1) net ≡ store_at run t net
-Stays run t net _ = Unit {0}
+Stays run t net (Peek mem at) = Unit {0}
 
 -- behind the first cell of the copy stand so many more inputs. The part of each run in which the holding net is 1 is a
 -- run of the old netlist, with any clock behind it too; where it is not, the copy's registers and memories stay as they

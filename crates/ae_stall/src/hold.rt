@@ -107,7 +107,7 @@ fn hold_cell(nl: &Netlist, how: HoldBy, n: u32, new: &mut Netlist) -> Result<(),
             }
             hold_memory(nl, how, n, at, next, enable, new)
         }
-        _ => Ok(()),
+        Cell::Input(_) | Cell::Const(_) | Cell::Op(_, _) | Cell::Peek { .. } => Ok(()),
     }
 }
 

@@ -3,7 +3,7 @@ use Rattle.std.specs.Prelude.{◌≡◌, ℕ, ◌+◌, ◌*◌, ◌<◌, ◌≤�
 use Rattle.ae_word.specs.declared.op.WordOp.TheVariants.{Mux}
 use Rattle.ae_netlist.specs.declared.cell.NetId.{NetId}
 use Rattle.ae_netlist.specs.declared.cell.Cell.{Cell}
-use Rattle.ae_netlist.specs.declared.cell.Cell.TheVariants.{Const, Op, Reg}
+use Rattle.ae_netlist.specs.declared.cell.Cell.TheVariants.{Input, Const, Op, Reg, Mem, Peek}
 use Rattle.ae_netlist.specs.declared.cell.SizedCell.{SizedCell}
 use Rattle.ae_netlist.specs.Circuit.{Circuit, Extends, IsNet, new_register, operand}
 use Rattle.ae_netlist.specs.Counts.{is_product}
@@ -32,10 +32,12 @@ pub record AreChoices (cells : List SizedCell) (width : ℕ) (gates : List (List
 
 -- of such cells a control is made: constants, registers, and operators that do not multiply
 abbrev pub IsControlCell : Cell → Type 0
+IsControlCell (Input port) = ⊥
 IsControlCell (Const constant) = Unit {0}
-IsControlCell (Reg next) = Unit {0}
 IsControlCell (Op op args) = is_product op ≡ false
-IsControlCell _ = ⊥
+IsControlCell (Reg next) = Unit {0}
+IsControlCell (Mem depth at next enable) = ⊥
+IsControlCell (Peek mem at) = ⊥
 
 -- behind these cells stand no others
 abbrev pub AddsControl : (old new : List SizedCell) → Type 0

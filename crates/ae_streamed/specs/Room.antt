@@ -2,15 +2,18 @@
 -- these are connected.
 use Rattle.std.specs.Prelude.{◌≡◌, ℕ, ◌<◌, ◌≤◌, List, length, Some, slice_get}
 use Rattle.ae_netlist.specs.declared.cell.Cell.{Cell}
-use Rattle.ae_netlist.specs.declared.cell.Cell.TheVariants.{Reg, Mem}
+use Rattle.ae_netlist.specs.declared.cell.Cell.TheVariants.{Input, Const, Op, Reg, Mem, Peek}
 use Rattle.ae_netlist.specs.declared.cell.SizedCell.{SizedCell}
 use Rattle.ae_streamed.specs.Controls.{net}
 
 -- a register or a memory that names itself, and any other cell as it is
 abbrev pub begun : ℕ → Cell → Cell
+begun own (Input port) = Input port
+begun own (Const k) = Const k
+begun own (Op op args) = Op op args
 begun own (Reg next) = Reg (net own)
 begun own (Mem depth at next enable) = Mem depth (net own) (net own) (net own)
-begun own cell = cell
+begun own (Peek mem at) = Peek mem at
 
 abbrev pub begun_at : ℕ → SizedCell → SizedCell
 begun_at own sized = record { width = sized.width; cell = begun own sized.cell }

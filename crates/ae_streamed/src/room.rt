@@ -39,7 +39,7 @@ fn begin_cell(nl: &Netlist, n: u32, new: &mut Netlist) -> Result<(), NetFault>
         Cell::Mem { depth, .. } => {
             new.memory(sized.width, depth)?;
         }
-        _ => {
+        Cell::Input(_) | Cell::Const(_) | Cell::Op(_, _) | Cell::Peek { .. } => {
             new.add(sized.width, sized.cell)?;
         }
     }
@@ -76,7 +76,7 @@ fn connect_cell(nl: &Netlist, n: u32, new: &mut Netlist)
             }
             new.connect_memory(NetId(n), at, next, enable)
         }
-        _ => {}
+        Cell::Input(_) | Cell::Const(_) | Cell::Op(_, _) | Cell::Peek { .. } => {}
     }
 }
 

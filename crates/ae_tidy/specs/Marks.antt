@@ -1,5 +1,5 @@
 -- Which nets of a netlist are kept: those from which an output, an input or a product is reached.
-use Rattle.std.specs.Prelude.{◌≡◌, ℕ, ◌+◌, ◌<◌, ◌≤◌, ◌⊎◌, Bool, true, not, List, length, Some, slice_get}
+use Rattle.std.specs.Prelude.{◌≡◌, ℕ, ◌+◌, ◌<◌, ◌≤◌, ◌⊎◌, Bool, true, false, not, List, length, Some, slice_get}
 use Rattle.std.specs.List.{count_by}
 use Rattle.ae_netlist.specs.declared.cell.NetId.{NetId}
 use Rattle.ae_netlist.specs.declared.cell.Cell.{Cell}
@@ -7,7 +7,7 @@ use Rattle.ae_netlist.specs.declared.cell.Cell.TheVariants.{Input, Const, Op, Re
 use Rattle.ae_netlist.specs.declared.cell.SizedCell.{SizedCell}
 use Rattle.ae_netlist.specs.declared.cell.Outlet.{Outlet}
 use Rattle.ae_netlist.specs.Circuit.{Circuit, operand}
-use Rattle.ae_netlist.specs.Counts.{is_mul}
+use Rattle.ae_netlist.specs.Counts.{is_product}
 
 -- so it is of each net that a cell reads
 abbrev pub EachRead : (ℕ → Type 0) → Cell → Type 0
@@ -48,7 +48,11 @@ pub record AreFollowed (cells : List SizedCell) (keep : List Bool) (line : List 
 -- a cell that is kept even where nothing reads it
 abbrev pub is_root : Cell → Bool
 is_root (Input port) = true
-is_root cell = is_mul cell
+is_root (Const k) = false
+is_root (Op op args) = is_product op
+is_root (Reg next) = false
+is_root (Mem depth at next enable) = false
+is_root (Peek mem at) = false
 
 -- the roots among the first cells are kept, and what the first outputs show
 pub record AreRoots (cells : List SizedCell) (keep : List Bool) (to : ℕ) : Type 0 where

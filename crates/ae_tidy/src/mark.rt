@@ -6,7 +6,7 @@ ghost use Rattle.ae_tidy.specs.Needed.{AreNeeded, IsNeeded, KeepsOnly, Reads};
 
 use crate::look::{cell_at, is_kept, net_at, outlet_at};
 use ae_netlist::{Cell, NetId, Netlist};
-use ae_word::WordOp;
+use ae_word::multiplies;
 use std::alloc::{AllocError, Global};
 
 /// Keeps a net; one that was not kept yet joins the line of those whose reads are still to be kept.
@@ -60,7 +60,11 @@ fn reach_reads(keep: &mut Vec<bool>, line: &mut Vec<NetId>, cell: Cell) -> Resul
 fn is_root(cell: Cell) -> bool
     ensures { result ≡ is_root cell }
 {
-    matches!(cell, Cell::Input(_) | Cell::Op(WordOp::Mul, _))
+    match cell {
+        Cell::Input(_) => true,
+        Cell::Op(op, _) => multiplies(op),
+        Cell::Const(_) | Cell::Reg { .. } | Cell::Mem { .. } | Cell::Peek { .. } => false,
+    }
 }
 
 /// Keeps the net of a cell that is kept even where nothing reads it.

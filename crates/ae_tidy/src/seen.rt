@@ -5,7 +5,7 @@ ghost use Rattle.ae_tidy.specs.Images.{IsThere, may_merge};
 
 use crate::table::is_late;
 use ae_netlist::{Cell, NetId, Netlist, SizedCell};
-use ae_word::WordOp;
+use ae_word::{WordOp, multiplies};
 use std::alloc::{AllocError, Global};
 
 /// How many places are tried for a cell.
@@ -50,7 +50,11 @@ fn code(sized: SizedCell) -> u64 {
 fn may_merge(cell: Cell) -> bool
     ensures { result ≡ may_merge cell }
 {
-    !matches!(cell, Cell::Input(_) | Cell::Op(WordOp::Mul, _))
+    match cell {
+        Cell::Input(_) => false,
+        Cell::Op(op, _) => !multiplies(op),
+        Cell::Const(_) | Cell::Reg { .. } | Cell::Mem { .. } | Cell::Peek { .. } => true,
+    }
 }
 
 fn same_op(a: WordOp, b: WordOp) -> bool

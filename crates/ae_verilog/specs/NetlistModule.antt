@@ -38,12 +38,15 @@ port_name outs (Plain k) = codes "p" ++ decimal k
 
 -- the name of a net that no input drives, as `l11_n15` for net 15 of line 11; lines are counted from 1
 unfoldable pub number_name : (lines : ℕ → ℕ) → ℕ → List ℕ
-number_name lines net =
-    if lines net == 0 then codes "n" ++ decimal net else codes "l" ++ (decimal (lines net) ++ (codes "_n" ++ decimal net))
+number_name lines net = if lines net == 0 then codes "n" ++ decimal net else codes "l" ++ (decimal (lines net) ++ (codes "_n" ++ decimal net))
 
 abbrev pub cell_name : (lines : ℕ → ℕ) → ℕ → Cell → List ℕ
 cell_name lines net (Input port) = port_name 1 port
-cell_name lines net _ = number_name lines net
+cell_name lines net (Const k) = number_name lines net
+cell_name lines net (Op op args) = number_name lines net
+cell_name lines net (Reg next) = number_name lines net
+cell_name lines net (Mem depth at next enable) = number_name lines net
+cell_name lines net (Peek mem at) = number_name lines net
 
 abbrev pub name_in : (lines : ℕ → ℕ) → ℕ → Option SizedCell → List ℕ
 name_in lines net None = number_name lines net
@@ -65,7 +68,11 @@ clock_net = net_of InputNet 0 1 clock_name
 -- the input that a cell is
 abbrev pub input_nets : ℕ → Cell → List NetTree
 input_nets width (Input port) = net_of InputNet 0 width (port_name 1 port) ∷ []
-input_nets width _ = []
+input_nets width (Const k) = []
+input_nets width (Op op args) = []
+input_nets width (Reg next) = []
+input_nets width (Mem depth at next enable) = []
+input_nets width (Peek mem at) = []
 
 abbrev pub output_net : List SizedCell → ℕ → Outlet → NetTree
 output_net cells outs outlet = net_of OutWireNet 0 (width_of cells outlet.net.0) (port_name outs outlet.port)
@@ -157,10 +164,13 @@ assignment lines cells outs outlet = assigns (drive (port_name outs outlet.port)
 
 -- what a register or a memory takes at a clock edge
 abbrev pub edge : (lines : ℕ → ℕ) → List SizedCell → ℕ → Cell → List ItemTree
+edge lines cells net (Input port) = []
+edge lines cells net (Const k) = []
+edge lines cells net (Op op args) = []
 edge lines cells net (Reg next) = always clock_name (set (number_name lines net) (net_value lines cells next.0)) ∷ []
 edge lines cells net (Mem depth at next enable) =
     always clock_name (when (net_value lines cells enable.0) (put (number_name lines net) (net_value lines cells at.0) (net_value lines cells next.0))) ∷ []
-edge lines cells net _ = []
+edge lines cells net (Peek mem at) = []
 
 -- the module of a netlist with so many results
 abbrev pub netlist_module : (lines : ℕ → ℕ) → List SizedCell → List Outlet → (outs : ℕ) → ModuleTree

@@ -2,7 +2,7 @@
 use Rattle.std.specs.Prelude.{ℕ, ◌-◌, ◌<◌, ◌^◌, Bool, true, false, ◌&&◌, nat_lt, max, List, [], ◌∷◌, ◌++◌, take, drop, length, codes, decimal, if◌then◌else◌}
 use Rattle.std.specs.List.{flat_map}
 use Rattle.ae_word.specs.declared.op.WordOp.{WordOp}
-use Rattle.ae_word.specs.declared.op.WordOp.TheVariants.{Cast}
+use Rattle.ae_word.specs.WordTable.{row_of}
 use Rattle.ae_netlist.specs.declared.cell.Port.{Port}
 use Rattle.ae_netlist.specs.declared.cell.Port.TheVariants.{Reset, Enable, Stream, In, Out, Plain}
 use Rattle.ae_netlist.specs.declared.cell.Cell.{Cell}
@@ -59,8 +59,7 @@ arms_text a b = codes " ? " ++ (a ++ (codes " : " ++ b))
 
 -- a shift by places within the word, and 0 for one by the width or more
 abbrev pub shift_text : (a sign : List ℕ) → (width by : ℕ) → List ℕ
-shift_text a sign width by =
-    if nat_lt by width then a ++ (codes " " ++ (sign ++ (codes " 6'd" ++ decimal by))) else decimal width ++ codes "'d0"
+shift_text a sign width by = if nat_lt by width then a ++ (codes " " ++ (sign ++ (codes " 6'd" ++ decimal by))) else decimal width ++ codes "'d0"
 
 -- the range of a word, and a blank; a single bit has none
 abbrev pub range_text : ℕ → List ℕ
@@ -86,8 +85,7 @@ widened_text lines width net value =
     codes "  // verilator lint_off WIDTH\n" ++ (value_text lines width net value ++ codes "  // verilator lint_on WIDTH\n")
 
 abbrev pub is_cast : WordOp → Bool
-is_cast (Cast to) = true
-is_cast _ = false
+is_cast op = (row_of op).casts
 
 -- the wire of an operator
 abbrev pub op_text : (lines : ℕ → ℕ) → List SizedCell → (width net : ℕ) → WordOp → (a b c : ℕ) → List ℕ
@@ -117,7 +115,11 @@ noted f cells k (n ∷ ns) = between f cells k n.cell ++ (note_line n ++ noted f
 -- the ports
 abbrev pub input_text : ℕ → Cell → List ℕ
 input_text width (Input port) = codes ",\n  input wire " ++ (range_text width ++ port_name 1 port)
-input_text width _ = []
+input_text width (Const k) = []
+input_text width (Op op args) = []
+input_text width (Reg next) = []
+input_text width (Mem depth at next enable) = []
+input_text width (Peek mem at) = []
 
 abbrev pub output_text : List SizedCell → (outs : ℕ) → Outlet → List ℕ
 output_text cells outs outlet =
@@ -130,8 +132,7 @@ header_text title cells outlets outs = codes "module " ++ (title ++ (codes " (\n
 
 -- what drives an output
 abbrev pub assignment_text : (lines : ℕ → ℕ) → List SizedCell → (outs : ℕ) → Outlet → List ℕ
-assignment_text lines cells outs outlet =
-    codes "  assign " ++ (port_name outs outlet.port ++ (codes " = " ++ (net_name lines cells outlet.net.0 ++ codes ";\n")))
+assignment_text lines cells outs outlet = codes "  assign " ++ (port_name outs outlet.port ++ (codes " = " ++ (net_name lines cells outlet.net.0 ++ codes ";\n")))
 
 -- what a register of this name takes at a clock edge
 abbrev pub register_edge : (n next : List ℕ) → List ℕ
@@ -144,10 +145,13 @@ memory_edge n at next enable =
     ++ (enable ++ (codes ") " ++ (n ++ (codes "[" ++ (at ++ (codes "] <= " ++ (next ++ codes ";\n")))))))
 
 abbrev pub edge_text : (lines : ℕ → ℕ) → List SizedCell → ℕ → Cell → List ℕ
+edge_text lines cells net (Input port) = []
+edge_text lines cells net (Const k) = []
+edge_text lines cells net (Op op args) = []
 edge_text lines cells net (Reg next) = register_edge (number_name lines net) (net_name lines cells next.0)
 edge_text lines cells net (Mem depth at next enable) =
     memory_edge (number_name lines net) (net_name lines cells at.0) (net_name lines cells next.0) (net_name lines cells enable.0)
-edge_text lines cells net _ = []
+edge_text lines cells net (Peek mem at) = []
 
 -- the module, under a name
 abbrev pub module_text : (title : List ℕ) → (lines : ℕ → ℕ) → List NoteTree → List SizedCell → List Outlet → (outs : ℕ) → List ℕ
@@ -182,4 +186,8 @@ PortFits (Plain k) = k < 2 ^ 32
 
 abbrev pub CellPortFits : Cell → Type 0
 CellPortFits (Input port) = PortFits port
-CellPortFits _ = Unit {0}
+CellPortFits (Const k) = Unit {0}
+CellPortFits (Op op args) = Unit {0}
+CellPortFits (Reg next) = Unit {0}
+CellPortFits (Mem depth at next enable) = Unit {0}
+CellPortFits (Peek mem at) = Unit {0}

@@ -158,8 +158,12 @@ fn widens(cells: &[SizedCell], width: u32, op: WordOp, a: NetId) -> bool
     ensures { result ≡ (is_cast op && nat_lt (width_of cells.now a.0) width) }
 {
     match op {
-        WordOp::Cast(_) => width_at(cells, a) < width,
-        _ => false,
+        WordOp::Cast(_) | WordOp::SCast(_) => width_at(cells, a) < width,
+        WordOp::Add | WordOp::Sub | WordOp::Mul => false,
+        WordOp::And | WordOp::Or | WordOp::Xor | WordOp::Not => false,
+        WordOp::Min | WordOp::Max | WordOp::Eq | WordOp::Lt | WordOp::Mux => false,
+        WordOp::SLt | WordOp::SMin | WordOp::SMax => false,
+        WordOp::Shl(_) | WordOp::Shr(_) | WordOp::Sar(_) => false,
     }
 }
 

@@ -66,7 +66,7 @@ fn write_edge(
             next,
             enable,
         } => write_memory_edge(out, names, k, at, next, enable),
-        _ => Ok(()),
+        Cell::Input(_) | Cell::Const(_) | Cell::Op(_, _) | Cell::Peek { .. } => Ok(()),
     }
 }
 

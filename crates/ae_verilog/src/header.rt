@@ -63,7 +63,8 @@ fn write_input(out: &mut String, sized: SizedCell) -> Result<(), AllocError>
             write_range(out, sized.width)?;
             write_port(out, port, 1)
         }
-        _ => Ok(()),
+        Cell::Const(_) | Cell::Op(_, _) | Cell::Reg { .. } | Cell::Mem { .. } | Cell::Peek { .. } =>
+            Ok(()),
     }
 }
 

@@ -36,7 +36,11 @@ impl PortList {
     {
         match sized.cell {
             Cell::Input(port) => self.push(alloc, port, 1, sized.width),
-            _ => Ok(()),
+            Cell::Const(_)
+            | Cell::Op(_, _)
+            | Cell::Reg { .. }
+            | Cell::Mem { .. }
+            | Cell::Peek { .. } => Ok(()),
         }
     }
 

@@ -57,7 +57,8 @@ fn write_cell_name(out: &mut String, lines: &[u32], k: usize, cell: Cell) -> Res
 {
     match cell {
         Cell::Input(port) => write_port(out, port, 1),
-        _ => write_number(out, lines, k),
+        Cell::Const(_) | Cell::Op(_, _) | Cell::Reg { .. } | Cell::Mem { .. } | Cell::Peek { .. } =>
+            write_number(out, lines, k),
     }
 }
 

@@ -5,7 +5,7 @@ use Rattle.ae_vtoken.specs.Tokens.{AreTokens}
 use Rattle.ae_vread.specs.Forms.{ModuleForm, module_tokens, module_of, IsItem}
 use Rattle.ae_vread.specs.ModuleTree.{ExprTree, name, constant, place, part, index, unary, binary, choice, concat_one, concat_more, StmtTree, set, put, when, either, block_end, block_more, DriveTree, ItemTree, nets, assigns, always, ModuleTree}
 use Rattle.ae_vread.specs.declared.module.BinOp.{BinOp}
-use Rattle.ae_vread.specs.declared.module.BinOp.TheVariants.{Mul}
+use Rattle.ae_vread.specs.declared.module.BinOp.TheVariants.{Mul, Add, Sub, Shl, Shr, Lt, Le, Gt, Ge, Eq, Ne, And, Xor, Or, Both, Either}
 
 -- the text is a form of the module, token by token
 pub record Spells (text : List ℕ) (m : ModuleTree) : Type 0 where
@@ -17,7 +17,21 @@ pub record Spells (text : List ℕ) (m : ModuleTree) : Type 0 where
 -- how many times a binary `*` stands in it
 abbrev pub star : BinOp → ℕ
 star Mul = 1
-star _ = 0
+star Add = 0
+star Sub = 0
+star Shl = 0
+star Shr = 0
+star Lt = 0
+star Le = 0
+star Gt = 0
+star Ge = 0
+star Eq = 0
+star Ne = 0
+star And = 0
+star Xor = 0
+star Or = 0
+star Both = 0
+star Either = 0
 
 abbrev pub expr_stars : ExprTree → ℕ
 expr_stars (name n) = 0

@@ -12,7 +12,9 @@ fn does(op: &Op) -> &'static str {
         Op::Const(_, _) => "has words of its own, which no parameter brings",
         Op::Call(_) | Op::Map(_) | Op::Map2(_) => "calls a function, whose lines are not looked at",
         Op::Reduce(_) | Op::Scan(_) => "computes new words of the elements",
-        _ => "moves words alone",
+        Op::Pair | Op::Fst | Op::Snd | Op::Zip => "moves words alone",
+        Op::Shift(_) | Op::Up(_) | Op::Select(_) => "moves words alone",
+        Op::Partition(_, _) | Op::Unpartition => "moves words alone",
     }
 }
 

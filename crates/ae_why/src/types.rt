@@ -56,7 +56,9 @@ fn wants(op: &Op) -> &'static str {
         Op::Zip => "two sequences of equal lengths at every level",
         Op::Up(_) => "a sequence of one element, as [1]u8",
         Op::Unpartition => "a sequence of sequences",
-        _ => "a sequence",
+        Op::Reduce(_) | Op::Scan(_) => "a sequence",
+        Op::Shift(_) | Op::Select(_) | Op::Partition(_, _) => "a sequence",
+        Op::Const(_, _) | Op::Call(_) | Op::Map(_) | Op::Map2(_) => "a sequence",
     }
 }
 
@@ -79,7 +81,16 @@ fn push_wants(out: &mut String, p: &Program, op: &Op) -> Result<(), AllocError> 
             let count = u64::from(*n).saturating_mul(u64::from(*m));
             writeln!(out, "a sequence of {count} elements")
         }
-        _ => writeln!(out, "{}", wants(op)),
+        Op::Word(_)
+        | Op::CastInt(_)
+        | Op::Pair
+        | Op::Fst
+        | Op::Snd
+        | Op::Zip
+        | Op::Reduce(_)
+        | Op::Scan(_)
+        | Op::Up(_)
+        | Op::Unpartition => writeln!(out, "{}", wants(op)),
     }
 }
 

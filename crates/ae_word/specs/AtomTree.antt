@@ -65,4 +65,5 @@ same_kind k l = same_sign k.signed l.signed && (k.width == l.width)
 abbrev pub same_atom : AtomTree → AtomTree → Bool
 same_atom (word k) (word l) = same_kind k l
 same_atom (pair a b) (pair c d) = same_atom a c && same_atom b d
-same_atom _ _ = false
+same_atom (word k) (pair c d) = false
+same_atom (pair a b) (word l) = false

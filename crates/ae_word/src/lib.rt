@@ -6,5 +6,5 @@ mod op;
 mod result;
 
 pub use atom::Atom;
-pub use op::{WordOp, arity, folds, latency, op_for, result_width};
+pub use op::{WordOp, arity, folds, latency, main_place, multiplies, op_for, result_width};
 pub use result::{apply, fits_width};

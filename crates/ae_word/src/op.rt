@@ -1,7 +1,7 @@
 // The operators on words.
 
 ghost use Rattle.std.specs.Prelude.{◌≡◌};
-ghost use Rattle.ae_word.specs.WordTable.{arity_of, folds, latency_of, op_for, result_width_of};
+ghost use Rattle.ae_word.specs.WordTable.{arity_of, folds, latency_of, op_for, result_width_of, row_of};
 
 /// An operator on words of 1 to 64 bits. Signed words are kept as their codes; `SLt` to `SCast` read their operands
 /// as signed, all others as unsigned.
@@ -49,8 +49,20 @@ pub fn arity(op: WordOp) -> u32
         | WordOp::Cast(_)
         | WordOp::Sar(_)
         | WordOp::SCast(_) => 1,
+        WordOp::Add
+        | WordOp::Sub
+        | WordOp::Mul
+        | WordOp::And
+        | WordOp::Or
+        | WordOp::Xor
+        | WordOp::Min
+        | WordOp::Max
+        | WordOp::Eq
+        | WordOp::Lt
+        | WordOp::SLt
+        | WordOp::SMin
+        | WordOp::SMax => 2,
         WordOp::Mux => 3,
-        _ => 2,
     }
 }
 
@@ -69,7 +81,8 @@ pub fn latency(op: WordOp) -> u32
         | WordOp::SLt
         | WordOp::SMin
         | WordOp::SMax => 1,
-        _ => 0,
+        WordOp::And | WordOp::Or | WordOp::Xor | WordOp::Not | WordOp::Mux => 0,
+        WordOp::Shl(_) | WordOp::Shr(_) | WordOp::Cast(_) | WordOp::Sar(_) | WordOp::SCast(_) => 0,
     }
 }
 
@@ -80,7 +93,10 @@ pub fn result_width(op: WordOp, width: u32) -> u32
     match op {
         WordOp::Eq | WordOp::Lt | WordOp::SLt => 1,
         WordOp::Cast(v) | WordOp::SCast(v) => v,
-        _ => width,
+        WordOp::Add | WordOp::Sub | WordOp::Mul => width,
+        WordOp::And | WordOp::Or | WordOp::Xor | WordOp::Not => width,
+        WordOp::Min | WordOp::Max | WordOp::SMin | WordOp::SMax | WordOp::Mux => width,
+        WordOp::Shl(_) | WordOp::Shr(_) | WordOp::Sar(_) => width,
     }
 }
 
@@ -97,7 +113,38 @@ pub fn op_for(signed: bool, op: WordOp) -> WordOp
         WordOp::Lt => WordOp::SLt,
         WordOp::Shr(k) => WordOp::Sar(k),
         WordOp::Cast(v) => WordOp::SCast(v),
-        _ => op,
+        WordOp::Add | WordOp::Sub | WordOp::Mul => op,
+        WordOp::And | WordOp::Or | WordOp::Xor | WordOp::Not => op,
+        WordOp::Eq | WordOp::Mux | WordOp::Shl(_) => op,
+        WordOp::SLt | WordOp::SMin | WordOp::SMax | WordOp::Sar(_) | WordOp::SCast(_) => op,
+    }
+}
+
+/// Which operand, counted from 0, has the kind and the width at which the operator works: of a choice the first arm.
+pub fn main_place(op: WordOp) -> u32
+    ensures { result ≡ (row_of op).main }
+{
+    match op {
+        WordOp::Mux => 1,
+        WordOp::Add | WordOp::Sub | WordOp::Mul => 0,
+        WordOp::And | WordOp::Or | WordOp::Xor | WordOp::Not => 0,
+        WordOp::Min | WordOp::Max | WordOp::Eq | WordOp::Lt => 0,
+        WordOp::Shl(_) | WordOp::Shr(_) | WordOp::Cast(_) => 0,
+        WordOp::SLt | WordOp::SMin | WordOp::SMax | WordOp::Sar(_) | WordOp::SCast(_) => 0,
+    }
+}
+
+/// Whether the operator's circuit multiplies.
+pub fn multiplies(op: WordOp) -> bool
+    ensures { result ≡ (row_of op).multiplies }
+{
+    match op {
+        WordOp::Mul => true,
+        WordOp::Add | WordOp::Sub => false,
+        WordOp::And | WordOp::Or | WordOp::Xor | WordOp::Not => false,
+        WordOp::Min | WordOp::Max | WordOp::Eq | WordOp::Lt | WordOp::Mux => false,
+        WordOp::Shl(_) | WordOp::Shr(_) | WordOp::Cast(_) => false,
+        WordOp::SLt | WordOp::SMin | WordOp::SMax | WordOp::Sar(_) | WordOp::SCast(_) => false,
     }
 }
 
@@ -105,14 +152,11 @@ pub fn op_for(signed: bool, op: WordOp) -> WordOp
 pub fn folds(op: WordOp) -> bool
     ensures { result ≡ folds op }
 {
-    matches!(
-        op,
-        WordOp::Add
-            | WordOp::Mul
-            | WordOp::And
-            | WordOp::Or
-            | WordOp::Xor
-            | WordOp::Min
-            | WordOp::Max
-    )
+    match op {
+        WordOp::Add | WordOp::Mul => true,
+        WordOp::And | WordOp::Or | WordOp::Xor | WordOp::Min | WordOp::Max => true,
+        WordOp::Sub | WordOp::Not | WordOp::Eq | WordOp::Lt | WordOp::Mux => false,
+        WordOp::Shl(_) | WordOp::Shr(_) | WordOp::Cast(_) => false,
+        WordOp::SLt | WordOp::SMin | WordOp::SMax | WordOp::Sar(_) | WordOp::SCast(_) => false,
+    }
 }

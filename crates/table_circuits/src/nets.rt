@@ -11,7 +11,8 @@ fn is_plain(cell: Cell) -> bool
 {
     match cell {
         Cell::Mem { .. } => false,
-        _ => true,
+        Cell::Input(_) | Cell::Const(_) | Cell::Op(_, _) => true,
+        Cell::Reg { .. } | Cell::Peek { .. } => true,
     }
 }
 

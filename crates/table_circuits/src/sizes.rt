@@ -5,11 +5,19 @@ use ae_word::WordOp;
 use table_text::Page;
 
 fn is_register(cell: &Cell) -> bool {
-    matches!(cell, Cell::Reg { .. })
+    match cell {
+        Cell::Reg { .. } => true,
+        Cell::Input(_) | Cell::Const(_) | Cell::Op(_, _) => false,
+        Cell::Mem { .. } | Cell::Peek { .. } => false,
+    }
 }
 
 fn compares(cell: &Cell) -> bool {
-    matches!(cell, Cell::Op(WordOp::Eq, _) | Cell::Op(WordOp::Lt, _))
+    match cell {
+        Cell::Op(op, _) => *op == WordOp::Eq || *op == WordOp::Lt,
+        Cell::Input(_) | Cell::Const(_) => false,
+        Cell::Reg { .. } | Cell::Mem { .. } | Cell::Peek { .. } => false,
+    }
 }
 
 /// The depth of each memory, and whether there are at most so many registers and so many comparisons.

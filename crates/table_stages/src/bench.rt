@@ -360,7 +360,8 @@ pub fn tell_makers(out: &mut Page, nl: &Netlist) {
             }
             Some(Cell::Op(op, _)) => return out.show(" ", op),
             Some(Cell::Input(_)) => return out.say(" input"),
-            _ => return,
+            Some(Cell::Const(_)) | Some(Cell::Mem { .. }) | Some(Cell::Peek { .. }) => return,
+            None => return,
         }
     }
 }

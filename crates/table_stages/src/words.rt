@@ -6,17 +6,14 @@ ghost use Rattle.ae_word.specs.WordTable.{HasRange};
 use ae_gather::Origin;
 use ae_word::WordOp;
 use std::alloc::{AllocError, Global};
-use table_text::{number_at, operator};
+use table_text::{names_width, number_at, operator};
 
 /// The operator of a name, and of a number where it has one; a width that it names is 1 to 64.
 pub fn op_named(name: &str, number: u32) -> Option<WordOp>
     ensures { IfSome result (λ op. HasRange op) }
 {
     let op = operator(name, number)?;
-    match op {
-        WordOp::Cast(v) | WordOp::SCast(v) if v < 1 || 64 < v => None,
-        _ => Some(op),
-    }
+    if names_width(op) { Some(op) } else { None }
 }
 
 /// Where the words of a move come from: `=w` is the fixed word w, and a number alone an element of the one input.

@@ -8,4 +8,4 @@ mod words;
 
 pub use page::Page;
 pub use rows::{fits, tell_outputs};
-pub use words::{number_at, numbers, operator, parted, word_at};
+pub use words::{names_width, number_at, numbers, operator, parted, word_at};

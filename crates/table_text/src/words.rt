@@ -1,5 +1,8 @@
 // The words and numbers of a line.
 
+ghost use Rattle.std.specs.Prelude.{IsTrue};
+ghost use Rattle.ae_word.specs.WordTable.{HasRange};
+
 use ae_word::WordOp;
 use std::alloc::{AllocError, Global};
 
@@ -68,4 +71,18 @@ pub fn operator(name: &str, k: u32) -> Option<WordOp> {
         }
     }
     None
+}
+
+/// Whether a width that the operator names is 1 to 64.
+pub fn names_width(op: WordOp) -> bool
+    ensures { IsTrue result → HasRange op }
+{
+    match op {
+        WordOp::Cast(v) | WordOp::SCast(v) => 1 <= v && v <= 64,
+        WordOp::Add | WordOp::Sub | WordOp::Mul => true,
+        WordOp::And | WordOp::Or | WordOp::Xor | WordOp::Not => true,
+        WordOp::Min | WordOp::Max | WordOp::Eq | WordOp::Lt | WordOp::Mux => true,
+        WordOp::SLt | WordOp::SMin | WordOp::SMax => true,
+        WordOp::Shl(_) | WordOp::Shr(_) | WordOp::Sar(_) => true,
+    }
 }

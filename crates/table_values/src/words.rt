@@ -1,25 +1,15 @@
 // Operators on words.
 
 ghost use Rattle.std.specs.Prelude.{IsTrue};
-ghost use Rattle.ae_word.specs.WordTable.{HasRange, OperandsFit};
+ghost use Rattle.ae_word.specs.WordTable.{OperandsFit};
 
 use ae_word::{WordOp, apply, arity, fits_width, latency, result_width};
-use table_text::{Page, number_at, operator, parted};
+use table_text::{Page, names_width, number_at, operator, parted};
 
 // The operator of a name, with the number that stands behind a point, as `shl.7`; a sum where there is none.
 fn named(text: &str) -> WordOp {
     let (name, number) = parted(text, ".");
     operator(name, number_at(number, 0)).unwrap_or(WordOp::Add)
-}
-
-// Whether a width that the operator names is 1 to 64.
-fn names_width(op: WordOp) -> bool
-    ensures { IsTrue result → HasRange op }
-{
-    match op {
-        WordOp::Cast(v) | WordOp::SCast(v) => 1 <= v && v <= 64,
-        _ => true,
-    }
 }
 
 // Whether the operands are words of their widths; an operator of one operand has 0 for the second.
@@ -28,7 +18,14 @@ fn are_operands(op: WordOp, width: u32, a: u64, b: u64, c: u64) -> bool
 {
     match op {
         WordOp::Mux => a < 2 && fits_width(b, width) && fits_width(c, width),
-        _ => fits_width(a, width) && fits_width(b, width),
+        WordOp::Add | WordOp::Sub | WordOp::Mul => fits_width(a, width) && fits_width(b, width),
+        WordOp::And | WordOp::Or | WordOp::Xor => fits_width(a, width) && fits_width(b, width),
+        WordOp::Min | WordOp::Max | WordOp::SMin | WordOp::SMax => {
+            fits_width(a, width) && fits_width(b, width)
+        }
+        WordOp::Eq | WordOp::Lt | WordOp::SLt => fits_width(a, width) && fits_width(b, width),
+        WordOp::Not | WordOp::Shl(_) | WordOp::Shr(_) | WordOp::Cast(_) => fits_width(a, width),
+        WordOp::Sar(_) | WordOp::SCast(_) => fits_width(a, width),
     }
 }
 

@@ -12,7 +12,7 @@ returns-clause-net c = pushed_net _ _ _ _ (Const c.from.result) tt c.in_ok-y.ens
 
 pub returns-clause-word : goal.returns-clause-word
 returns-clause-word c =
-    rw c.from.ensures at (fixed_word c.args.from c.args.nl.now c.push.new.nl c.in_ok-y.y 16 c.from.result c.requires.from c.in_ok-y.ensures.ok
+    rw c.from.ensures at (fixed_word c.args.from c.args.nl.now c.push.new.self c.in_ok-y.y 16 c.from.result c.requires.from c.in_ok-y.ensures.ok
     c.in_ok-y.ensures.added)
 
 pub returns-clause-address : goal.returns-clause-address

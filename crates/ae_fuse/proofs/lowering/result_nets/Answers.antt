@@ -12,53 +12,62 @@ use Rattle.ae_fuse.proofs.lowering.result_nets.Goals as goal
 use Rattle.ae_clocked.proofs.InRow.{keeps_trans}
 
 pub later-requires-clause-nets : goal.later-requires-clause-nets
-later-requires-clause-nets c = own_widths c.in-Ok.ensures.bundle
+later-requires-clause-nets c = let there = rw c.in_ok-bundle.ensures at c.build.ensures.bundle in own_widths there
 
 -- no move takes more cells than there is room for
-pub unreachable-requires : goal.unreachable-requires
-unreachable-requires c =
+pub in_room-requires : goal.in_room-requires
+in_room-requires c is =
     let mid = c.build.new.nl in
-    let full : length mid.cells ≡ mid.limit = c.in-Err-Full.ensures.full c.in-Err-Full.field-0-is in
+    let full : length mid.cells ≡ mid.limit = let told = rw is at c.build.ensures.full in told refl in
     omega (arith, full, c.build.ensures.cells, c.build.ensures.grows.limit, c.requires.room, part_small (move_of c.args.gather) c.args.whole)
 
-pub unreachable-requires-in-Err-Full-later : goal.unreachable-requires-in-Err-Full-later
-unreachable-requires-in-Err-Full-later c =
-    let nets = c.in-Ok.bundle in
+pub in_room-requires-2 : goal.in_room-requires-2
+in_room-requires-2 c is =
+    let nets = c.in_ok-bundle.bundle in
+    let there = rw c.in_ok-bundle.ensures at c.build.ensures.bundle in
     let mid = c.build.new.nl in
     let new = c.later.new.nl in
     let more = subst (λ d. GrowsBy mid new ((c.args.whole - d) * length nets)) c.latency.ensures c.later.ensures.grows in
-    let grown = result_grows c.args.nl.now mid new (move_of c.args.gather) c.args.whole nets c.requires.latest c.in-Ok.ensures.bundle c.build.ensures.grows
+    let grown = result_grows c.args.nl.now mid new (move_of c.args.gather) c.args.whole nets c.requires.latest there c.build.ensures.grows
     c.build.ensures.cells more in
-    let full : length new.cells ≡ new.limit = c.in-Err-Full-later.ensures.full c.in-Err-Full-later.field-0-is in
+    let full : length new.cells ≡ new.limit = let told = rw is at c.later.ensures.full in told refl in
     omega (arith, grown.cells, grown.grows.limit, full, c.requires.room)
 
-pub returns-in-Ok-later-clause-keeps : goal.returns-in-Ok-later-clause-keeps
-returns-in-Ok-later-clause-keeps c = keeps_trans c.build.ensures.keeps c.later.ensures.keeps
+pub returns-clause-keeps : goal.returns-clause-keeps
+returns-clause-keeps c = keeps_trans c.build.ensures.keeps c.later.ensures.keeps
 
-pub returns-in-Ok-later-clause-grows : goal.returns-in-Ok-later-clause-grows
-returns-in-Ok-later-clause-grows c =
-    let nets = c.in-Ok.bundle in
+pub returns-clause-grows : goal.returns-clause-grows
+returns-clause-grows c =
+    let nets = c.in_ok-bundle.bundle in
+    let there = rw c.in_ok-bundle.ensures at c.build.ensures.bundle in
     let mid = c.build.new.nl in
     let more = subst (λ d. GrowsBy mid c.later.new.nl ((c.args.whole - d) * length nets)) c.latency.ensures c.later.ensures.grows in
-    result_grows c.args.nl.now mid c.later.new.nl (move_of c.args.gather) c.args.whole nets c.requires.latest c.in-Ok.ensures.bundle c.build.ensures.grows
+    result_grows c.args.nl.now mid c.later.new.nl (move_of c.args.gather) c.args.whole nets c.requires.latest there c.build.ensures.grows
     c.build.ensures.cells more
 
-pub returns-in-Ok-later-clause-moved : goal.returns-in-Ok-later-clause-moved
-returns-in-Ok-later-clause-moved c =
+pub returns-clause-moved : goal.returns-clause-moved
+returns-clause-moved c =
     let m = move_of c.args.gather in
-    let nets = c.in-Ok.bundle in
+    let nets = c.in_ok-bundle.bundle in
     let mid = c.build.new.nl in
     let new = c.later.new.nl in
-    let there : AreNets mid.cells (stream_widths (stream_of m.out)) nets = c.in-Ok.ensures.bundle in
-    let late : AreLate new.cells c.build.new.clocks.rst (c.args.whole - move_latency m) nets c.in-Ok-later.late = subst
-    (λ d. AreLate new.cells c.build.new.clocks.rst (c.args.whole - d) nets c.in-Ok-later.late) c.latency.ensures c.in-Ok-later.ensures.late in
-    result_late mid new c.args.clocks.now.rst c.build.new.clocks.rst m c.args.whole c.args.args.now nets c.in-Ok-later.late c.requires.moves c.requires.latest
+    let there : AreNets mid.cells (stream_widths (stream_of m.out)) nets = rw c.in_ok-bundle.ensures at c.build.ensures.bundle in
+    let law = rw c.in_ok-bundle.ensures at c.build.ensures.law in
+    let delayed = rw c.in_ok-late.ensures at c.later.ensures.late in
+    let stand = rw c.in_ok-late.ensures at c.later.ensures.nets in
+    let late : AreLate new.cells c.build.new.clocks.rst (c.args.whole - move_latency m) nets c.in_ok-late.late = subst
+    (λ d. AreLate new.cells c.build.new.clocks.rst (c.args.whole - d) nets c.in_ok-late.late) c.latency.ensures delayed in
+    result_late mid new c.args.clocks.now.rst c.build.new.clocks.rst m c.args.whole c.args.args.now nets c.in_ok-late.late c.requires.moves c.requires.latest
     c.build.ensures.keeps.rst c.later.ensures.grows.grows.extends
-    there c.in-Ok.ensures.law (c.in-Ok-later.ensures.nets (stream_widths (stream_of m.out)) there) late
+    there law (stand (stream_widths (stream_of m.out)) there) late
 
-pub returns-in-Ok-later-clause-adds : goal.returns-in-Ok-later-clause-adds
-returns-in-Ok-later-clause-adds c =
-    let more = subst (λ d. Adds c.build.new.nl c.later.new.nl 0 (length c.in-Ok.bundle * rings (c.args.whole - d))) c.latency.ensures
-    c.in-Ok-later.ensures.adds in
+pub returns-clause-adds : goal.returns-clause-adds
+returns-clause-adds c =
+    let there = rw c.in_ok-bundle.ensures at c.build.ensures.bundle in
+    let muls = rw c.in_ok-bundle.ensures at c.build.ensures.muls in
+    let memories = rw c.in_ok-bundle.ensures at c.build.ensures.memories in
+    let whole = rw c.in_ok-bundle.ensures at c.build.ensures.whole in
+    let added = rw c.in_ok-late.ensures at c.later.ensures.adds in
+    let more = subst (λ d. Adds c.build.new.nl c.later.new.nl 0 (length c.in_ok-bundle.bundle * rings (c.args.whole - d))) c.latency.ensures added in
     result_adds c.args.nl.now c.build.new.nl c.later.new.nl
-    (move_of c.args.gather) c.args.whole c.in-Ok.bundle c.in-Ok.ensures.bundle c.in-Ok.ensures.muls c.in-Ok.ensures.memories c.in-Ok.ensures.whole more
+    (move_of c.args.gather) c.args.whole c.in_ok-bundle.bundle there muls memories whole more

@@ -337,8 +337,8 @@ lower_node-returns-in-Body-clause-rings t c =
 pub lower_node-returns-in-Body-clause-item : goal.lower_node-returns-in-Body-clause-item
 lower_node-returns-in-Body-clause-item = Node.lower_node-returns-in-Body-clause-item
 
-pub lower_node-overflow_add-at-in_default : goal.lower_node-overflow_add-at-in_default
-lower_node-overflow_add-at-in_default t c =
+pub lower_node-overflow_add-at-in-Word : goal.lower_node-overflow_add-at-in-Word
+lower_node-overflow_add-at-in-Word t c =
     let h = placed_in c.args.p.now c.args.a.now.arrivals c.args.k c.args.j c.args.at c.instance-s.result.now c.index-node.result.now
     c.arrivals_of-arrivals.result.now c.requires.timed c.requires.light c.instance-s.ensures c.requires.node c.index-node.ensures
     c.arrivals_of-arrivals.ensures in

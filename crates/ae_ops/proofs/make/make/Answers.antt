@@ -45,15 +45,15 @@ returns-in_ok-net-in-Add-clause-net c = rw c.in-Add.is c.in_ok-net-in-Add.ensure
 pub returns-in_ok-net-in-Add-clause-words : goal.returns-in_ok-net-in-Add-clause-words
 returns-in_ok-net-in-Add-clause-words c = rw c.in-Add.is (sum_words _ _ c.args.width c.args.args _ _ refl refl c.in_ok-net-in-Add.ensures.words)
 
-pub returns-in_err-net-in_default-clause-err : goal.returns-in_err-net-in_default-clause-err
-returns-in_err-net-in_default-clause-err c = refused_with _ (adds_most 9 (omega arith) c.in_err-net-in_default.ensures.err)
+pub returns-in_err-net-in-Sub-clause-err : goal.returns-in_err-net-in-Sub-clause-err
+returns-in_err-net-in-Sub-clause-err c = refused_with _ (adds_most 9 (omega arith) c.in_err-net-in-Sub.ensures.err)
 
-pub returns-in_ok-net-in_default-clause-adds : goal.returns-in_ok-net-in_default-clause-adds
-returns-in_ok-net-in_default-clause-adds c = adds_most 9 (omega arith) c.in_ok-net-in_default.ensures.adds
+pub returns-in_ok-net-in-Sub-clause-adds : goal.returns-in_ok-net-in-Sub-clause-adds
+returns-in_ok-net-in-Sub-clause-adds c = adds_most 9 (omega arith) c.in_ok-net-in-Sub.ensures.adds
 
-pub returns-in_ok-net-in_default-clause-net : goal.returns-in_ok-net-in_default-clause-net
-returns-in_ok-net-in_default-clause-net c = c.in_ok-net-in_default.ensures.net
+pub returns-in_ok-net-in-Sub-clause-net : goal.returns-in_ok-net-in-Sub-clause-net
+returns-in_ok-net-in-Sub-clause-net c = c.in_ok-net-in-Sub.ensures.net
 
-pub returns-in_ok-net-in_default-clause-words : goal.returns-in_ok-net-in_default-clause-words
-returns-in_ok-net-in_default-clause-words c =
-    at_once c.args.nl.now c.compute.new.nl c.in_ok-net-in_default.net c.args.op c.args.width c.args.args c.in_ok-net-in_default.ensures.words
+pub returns-in_ok-net-in-Sub-clause-words : goal.returns-in_ok-net-in-Sub-clause-words
+returns-in_ok-net-in-Sub-clause-words c =
+    at_once c.args.nl.now c.compute.new.nl c.in_ok-net-in-Sub.net c.args.op c.args.width c.args.args c.in_ok-net-in-Sub.ensures.words

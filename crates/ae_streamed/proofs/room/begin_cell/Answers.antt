@@ -1,5 +1,5 @@
 -- One cell more is added.
-use Rattle.std.proofs.Common.{ap, sym}
+use Rattle.std.proofs.Common.{ap, arith, sym}
 use Rattle.ae_netlist.specs.declared.cell.Cell.{Cell}
 use Rattle.ae_netlist.specs.Circuit.{Circuit, new_memory, new_register}
 use Rattle.std.proofs.Common.{length}
@@ -53,18 +53,20 @@ add-requires c =
     record {
       low = fits.low;
       high = fits.high;
-      allowed = may_add c.args.nl.now.cells c.args.new.now.cells c.args.n c.cell_at-sized.result.width c.cell_at-sized.result.cell c.in_default.not-Reg
-          c.in_default.not-Mem fits.cell;
+      allowed = may_add c.args.nl.now.cells c.args.new.now.cells c.args.n c.cell_at-sized.result.width c.cell_at-sized.result.cell
+          (λ next e. grind (arith, c.in-Input.is, e))
+          (λ depth at next enable e. grind (arith, c.in-Input.is, e)) fits.cell;
     }
 
-pub returns-in_ok-add-in_default : goal.returns-in_ok-add-in_default
-returns-in_ok-add-in_default c = record {
+pub returns-in_ok-add-in-Input : goal.returns-in_ok-add-in-Input
+returns-in_ok-add-in-Input c = record {
   full = tt;
   begun = begun_more c.args.nl.now.cells c.args.new.now.cells c.add.new.self.cells c.args.n c.cell_at-sized.result c.cell_at-sized.result
       c.cell_at-sized.ensures c.requires.begun
       (sym (ap (λ (v : Cell). record { width = c.cell_at-sized.result.width; cell = v })
-      (begun_other c.args.n c.cell_at-sized.result.cell c.in_default.not-Reg c.in_default.not-Mem)))
-      (ap (λ (v : Circuit). v.cells) c.in_ok-add-in_default.ensures.added);
-  limit = ap (λ (v : Circuit). v.limit) c.in_ok-add-in_default.ensures.added;
-  outlets = ap (λ (v : Circuit). v.outlets) c.in_ok-add-in_default.ensures.added;
+      (begun_other c.args.n c.cell_at-sized.result.cell (λ next e. grind (arith, c.in-Input.is, e))
+      (λ depth at next enable e. grind (arith, c.in-Input.is, e)))))
+      (ap (λ (v : Circuit). v.cells) c.in_ok-add-in-Input.ensures.added);
+  limit = ap (λ (v : Circuit). v.limit) c.in_ok-add-in-Input.ensures.added;
+  outlets = ap (λ (v : Circuit). v.outlets) c.in_ok-add-in-Input.ensures.added;
 }

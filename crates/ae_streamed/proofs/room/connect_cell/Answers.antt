@@ -43,7 +43,7 @@ returns-then-is_idle-clause-made c =
     (memory_idle c.args.n c.in-Mem.depth c.in-Mem.at c.in-Mem.next c.in-Mem.enable c.cell_at-sized.result.cell c.in-Mem.is
     (c.is_idle.ensures.0 c.if-is_idle.true))
 
-pub returns-in_default-clause-made : goal.returns-in_default-clause-made
-returns-in_default-clause-made c =
+pub returns-in-Input-clause-made : goal.returns-in-Input-clause-made
+returns-in-Input-clause-made c =
     made_idle c.args.nl.now.cells c.args.new.now.cells c.args.n c.cell_at-sized.result c.cell_at-sized.ensures c.requires.made
-    (begun_other c.args.n c.cell_at-sized.result.cell c.in_default.not-Reg c.in_default.not-Mem)
+    (begun_other c.args.n c.cell_at-sized.result.cell (λ next e. grind (arith, c.in-Input.is, e)) (λ depth at next enable e. grind (arith, c.in-Input.is, e)))

@@ -214,16 +214,16 @@ lower_node-build-requires t c =
     (λ (is : List ℕ). AreDelayed c.args.nl.now.cells c.joined.new.nl.cells c.args.clocks.now.rst c.args.items.now c.waits_of-waits.result.now is
     c.in_ok-args.args.items) c.deref-2.ensures.value c.in_ok-args.ensures.delayed in
     let bundles : AreBundles c.joined.new.nl.cells (streams_of (arguments_of (st_func_tree c.instance-s.result.now) (st_node_tree c.index-node.result.now)))
-    c.deref-in_default.result.now = subst (λ (bs : List (List NetId)). AreBundles c.joined.new.nl.cells
-    (streams_of (arguments_of (st_func_tree c.instance-s.result.now) (st_node_tree c.index-node.result.now))) bs) (sym c.deref-in_default.ensures.value)
+    c.deref-in-Word.result.now = subst (λ (bs : List (List NetId)). AreBundles c.joined.new.nl.cells
+    (streams_of (arguments_of (st_func_tree c.instance-s.result.now) (st_node_tree c.index-node.result.now))) bs) (sym c.deref-in-Word.ensures.value)
     (args_stand c.args.nl.now.cells c.joined.new.nl.cells c.args.clocks.now.rst (st_func_tree c.instance-s.result.now)
     (length (st_func_tree c.instance-s.result.now).ins + c.args.j) c.args.items.now c.waits_of-waits.result.now
     (st_node_tree c.index-node.result.now).args c.in_ok-args.args.items (c.requires.items (st_func_tree c.instance-s.result.now) h.func) h.below late) in
     record {
       belongs = c.in_ok-args.ensures.belongs;
       ready = node_ready (st_func_trees c.args.p.now) c.args.k c.args.j c.args.at (st_func_tree c.instance-s.result.now)
-          (st_node_tree c.index-node.result.now) c.arrivals_of-arrivals.result.now c.joined.new.nl.cells c.deref-in_default.result.now h bundles;
-      plain = calls_nothing c.index-node.result.now.op c.in_default.not-Body;
+          (st_node_tree c.index-node.result.now) c.arrivals_of-arrivals.result.now c.joined.new.nl.cells c.deref-in-Word.result.now h bundles;
+      plain = calls_nothing c.index-node.result.now.op (λ k e. grind (arith, c.in-Word.is, e));
       early = early;
     }
 
@@ -244,7 +244,7 @@ lower_node-returns t c =
     (st_node_tree c.index-node.result.now).args c.in_ok-args.args.items = subst
     (λ (is : List ℕ). AreDelayed c.args.nl.now.cells c.joined.new.nl.cells c.args.clocks.now.rst c.args.items.now c.waits_of-waits.result.now is
     c.in_ok-args.args.items) c.deref-2.ensures.value c.in_ok-args.ensures.delayed in
-    let plain = calls_nothing c.index-node.result.now.op c.in_default.not-Body in
+    let plain = calls_nothing c.index-node.result.now.op (λ k e. grind (arith, c.in-Word.is, e)) in
     let same : plain_costs (st_func_tree c.instance-s.result.now)
     (st_node_tree c.index-node.result.now) ≡ (node_costs (all_costs (take c.args.k (st_func_trees c.args.p.now)))
     (item_layouts (st_func_tree c.instance-s.result.now)) (st_node_tree c.index-node.result.now)) = plain_is
@@ -296,7 +296,7 @@ lower_node-returns t c =
           (subst (λ (bs : List (List NetId)). IsBuilt c.build.new.nl c.joined.new.clocks.rst (c.args.at + c.start_of-start.result)
           (node_part (callees (take c.args.k (st_func_trees c.args.p.now)))
           (plain_costs (st_func_tree c.instance-s.result.now) (st_node_tree c.index-node.result.now)).latency (st_func_tree c.instance-s.result.now)
-          (st_node_tree c.index-node.result.now)) bs y) c.deref-in_default.ensures.value bare) in
+          (st_node_tree c.index-node.result.now)) bs y) c.deref-in-Word.ensures.value bare) in
           node_placed (st_func_trees c.args.p.now) c.args.a.now.arrivals c.args.k c.args.j c.args.at c.args.clocks.now.rst
           (st_func_tree c.instance-s.result.now) (st_node_tree c.index-node.result.now) c.arrivals_of-arrivals.result.now c.waits_of-waits.result.now
           c.args.items.now c.in_ok-args.args.items c.args.nl.now c.joined.new.nl c.build.new.nl
