@@ -1,6 +1,7 @@
 #!/usr/bin/env python3
 """No table of operators, cells, ports, nets or layouts has a row for all others: each names each variant, in the code and in
-the definitions, so that the check asks for a new variant at every place that tells them apart.
+the definitions, so that the check asks for a new variant in each table. `if let` and `let .. else`, which look for one variant
+alone, are no tables.
 
     arms.py       compares; prints each row that stands for several variants without naming them"""
 import pathlib
