@@ -1,3 +1,4 @@
+pub mod Slowdowns
 pub mod StTree
 pub mod Slots
 pub mod Size
