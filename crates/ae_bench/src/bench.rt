@@ -1,6 +1,6 @@
 // A test bench for the module of a program.
 
-ghost use Rattle.std.specs.Prelude.{◌<◌, ◌≤◌, length, All, IfOk};
+ghost use Rattle.std.specs.Prelude.{◌<◌, ◌≤◌, length, All};
 
 use crate::wires::Wires;
 use ae_compile::Costed;
@@ -8,6 +8,7 @@ use ae_eval::{eval, fits};
 use ae_items::{Bundle, Column, KitFault, inputs, outputs};
 use ae_parse::read_rows;
 use ae_seqtype::Value;
+use ae_sttype::Slowdown;
 use ae_why::Watch;
 use ae_word::Atom;
 use std::alloc::{AllocError, Global};
@@ -240,11 +241,9 @@ fn write_compared(
 }
 
 // The block that a clock is in, and the clock of that block.
-fn place_of(clock: u64, slowdown: u32) -> (usize, u32)
-    requires { 0 < slowdown }
-{
-    let slowdown = u64::from(slowdown);
-    ((clock / slowdown) as usize, (clock % slowdown) as u32)
+fn place_of(clock: u64, slowdown: Slowdown) -> (usize, u32) {
+    let clocks = u64::from(slowdown.clocks());
+    ((clock / clocks) as usize, (clock % clocks) as u32)
 }
 
 // What a bench has to tell of a run.
@@ -253,7 +252,7 @@ struct Run<'a> {
     ins: Vec<Bundle<'a>>,
     outs: Vec<Bundle<'a>>,
     blocks: Vec<Block>,
-    slowdown: u32,
+    slowdown: Slowdown,
     latency: u32,
 }
 
@@ -263,9 +262,7 @@ fn write_clock(
     run: &Run<'_>,
     clock: u64,
     chance: &mut Chance,
-) -> Result<(), AllocError>
-    requires { 0 < run.now.slowdown }
-{
+) -> Result<(), AllocError> {
     let (number, place) = place_of(clock, run.slowdown);
     writeln!(out, "    // clock {clock}")?;
     for bundle in &run.ins {
@@ -289,7 +286,7 @@ fn clock_count(run: &Run<'_>) -> u64 {
         return 0;
     }
     (run.blocks.len() as u64)
-        .saturating_mul(u64::from(run.slowdown))
+        .saturating_mul(u64::from(run.slowdown.clocks()))
         .saturating_add(u64::from(run.latency))
 }
 
@@ -307,7 +304,7 @@ fn port_count(run: &Run<'_>) -> u64 {
 
 // The bench up to the first clock.
 fn write_head(out: &mut String, run: &Run<'_>, dumps: bool) -> Result<(), AllocError> {
-    let slowdown = run.slowdown;
+    let slowdown = run.slowdown.clocks();
     writeln!(
         out,
         "// A test bench for the module of `aeth build {slowdown}`, with {} blocks.\n// verilator lint_off DECLFILENAME\nmodule bench;\n  reg clk;\n  reg rst;",
@@ -332,9 +329,7 @@ fn write_head(out: &mut String, run: &Run<'_>, dumps: bool) -> Result<(), AllocE
 }
 
 // The bench.
-fn write_bench(out: &mut String, run: &Run<'_>, fill: u64, dumps: bool) -> Result<(), AllocError>
-    requires { 0 < run.now.slowdown }
-{
+fn write_bench(out: &mut String, run: &Run<'_>, fill: u64, dumps: bool) -> Result<(), AllocError> {
     let mut chance = Chance {
         state: fill ^ 0x9e37_79b9_7f4a_7c15,
     };
@@ -359,7 +354,6 @@ fn run_of<'a, W: Watch>(
     watch: &mut W,
 ) -> Result<Run<'a>, KitFault>
     requires { length rows.now ≤ 16777216 }
-    ensures { IfOk result (λ run. 0 < run.slowdown) }
 {
     let blocks = blocks(alloc, costed, rows, watch)?;
     let ins = inputs(alloc, costed)?;
@@ -368,15 +362,13 @@ fn run_of<'a, W: Watch>(
         ins,
         outs,
         blocks,
-        slowdown: costed.slowdown().max(1),
+        slowdown: costed.slowdown(),
         latency: costed.costs().latency(),
     })
 }
 
 // The text of a bench.
-fn text_of(alloc: Global, run: &Run<'_>, fill: u64, dumps: bool) -> Result<String, KitFault>
-    requires { 0 < run.now.slowdown }
-{
+fn text_of(alloc: Global, run: &Run<'_>, fill: u64, dumps: bool) -> Result<String, KitFault> {
     if clock_count(run).saturating_mul(port_count(run)) > MOST_WORDS {
         return Err(KitFault::LongBench);
     }

@@ -1,10 +1,9 @@
 // A wrapper around the module of a program, for use in a design.
 
-ghost use Rattle.std.specs.Prelude.{◌<◌};
-
 use crate::wires::Wires;
 use ae_compile::Costed;
 use ae_items::{Bundle, Item, Role, element, inputs, item_of, lanes, outputs};
+use ae_sttype::Slowdown;
 use std::alloc::{AllocError, Global};
 use std::fmt::{self, Display};
 
@@ -102,13 +101,13 @@ fn results<'a>(alloc: Global, costed: &'a Costed) -> Result<Vec<Port<'a>>, Alloc
 // The clocks from the reset to the end of the first block of the results.
 #[derive(Clone, Copy)]
 struct Clocks {
-    slowdown: u32,
+    slowdown: Slowdown,
     latency: u32,
 }
 
 impl Clocks {
     fn count(&self) -> u32 {
-        self.latency.saturating_add(self.slowdown)
+        self.latency.saturating_add(self.slowdown.clocks())
     }
 
     // The bits of a number below the count.
@@ -149,28 +148,23 @@ fn write_head(
 }
 
 // A bit for each clock, the last first: whether a block begins in it.
-fn write_blocks(out: &mut String, clocks: Clocks) -> Result<(), AllocError>
-    requires { 0 < clocks.slowdown }
-{
+fn write_blocks(out: &mut String, clocks: &Clocks) -> Result<(), AllocError> {
     let count = clocks.count();
     write!(
         out,
         "  localparam [{}:0] BLOCK = {count}'b",
         count.saturating_sub(1)
     )?;
+    let period = clocks.slowdown.clocks();
     for left in 0..count {
         let clock = count.saturating_sub(1).saturating_sub(left);
-        out.push_str(if clock % clocks.slowdown == 0 {
-            "1"
-        } else {
-            "0"
-        })?;
+        out.push_str(if clock % period == 0 { "1" } else { "0" })?;
     }
     out.push_str(";\n")
 }
 
 // The same: whether an element of a result stands in it.
-fn write_stands(out: &mut String, clocks: Clocks, port: &Port<'_>) -> Result<(), AllocError> {
+fn write_stands(out: &mut String, clocks: &Clocks, port: &Port<'_>) -> Result<(), AllocError> {
     let count = clocks.count();
     let number = port.bundle.number;
     write!(
@@ -195,11 +189,11 @@ fn write_lanes(out: &mut String, port: &Port<'_>) -> Result<(), AllocError> {
 // The numbers that a design may want.
 fn write_numbers(
     out: &mut String,
-    clocks: Clocks,
+    clocks: &Clocks,
     ins: &[Port<'_>],
     outs: &[Port<'_>],
 ) -> Result<(), AllocError> {
-    let Clocks { slowdown, latency } = clocks;
+    let (slowdown, latency) = (clocks.slowdown.clocks(), clocks.latency);
     writeln!(
         out,
         "  // verilator lint_off UNUSEDPARAM\n  localparam SLOWDOWN = {slowdown};\n  localparam LATENCY = {latency};"
@@ -214,7 +208,7 @@ fn write_numbers(
 }
 
 // The counter of clocks: behind the first block of the results it goes on with the next.
-fn write_counter(out: &mut String, clocks: Clocks) -> Result<(), AllocError> {
+fn write_counter(out: &mut String, clocks: &Clocks) -> Result<(), AllocError> {
     let bits = clocks.bits();
     let last = clocks.count().saturating_sub(1);
     let latency = clocks.latency;
@@ -268,12 +262,10 @@ fn write_instance(
 fn write_top(
     out: &mut String,
     name: &str,
-    clocks: Clocks,
+    clocks: &Clocks,
     ins: &[Port<'_>],
     outs: &[Port<'_>],
-) -> Result<(), AllocError>
-    requires { 0 < clocks.slowdown }
-{
+) -> Result<(), AllocError> {
     write_head(out, name, ins, outs)?;
     write_numbers(out, clocks, ins, outs)?;
     write_blocks(out, clocks)?;
@@ -296,10 +288,10 @@ pub fn wrapper_text(alloc: Global, costed: &Costed, name: &str) -> Result<String
     let ins = parameters(alloc, costed)?;
     let outs = results(alloc, costed)?;
     let clocks = Clocks {
-        slowdown: costed.slowdown().max(1),
+        slowdown: costed.slowdown(),
         latency: costed.costs().latency(),
     };
     let mut out = String::new(alloc);
-    write_top(&mut out, name, clocks, &ins, &outs)?;
+    write_top(&mut out, name, &clocks, &ins, &outs)?;
     Ok(out)
 }

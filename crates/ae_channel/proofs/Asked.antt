@@ -145,8 +145,6 @@ can_stream p slowdown instances n report notes d =
     let ports = few_ports (λ k. 0) p slowdown costs ins outs n d.laid d.circuit in
     record {
       reset = has_reset p slowdown costs ins outs n d.circuit;
-      some = omega (arith, clocks, d.laid.some);
-      most = omega (arith, clocks, d.laid.most);
       inputs = are_layouts report.slowdown report.ins.items ins refl (some_ins p slowdown ins outs d.laid)
           (subst (λ k. AreFilling k ins) (sym clocks) (ins_filling p slowdown ins outs d.laid));
       outputs = are_layouts report.slowdown report.outs.items outs refl (some_outs p slowdown ins outs d.laid)

@@ -11,8 +11,6 @@ use Rattle.ae_streamed.specs.Beats.{AreLayouts}
 -- and layouts that take the clocks of the report
 pub record CanStream (n : Circuit) (report : Report) : Type 0 where
   pub reset : slice_get n.cells 0 ≡ Some reset_cell
-  pub some : 1 ≤ report.slowdown
-  pub most : report.slowdown ≤ 4096
   pub inputs : AreLayouts report.slowdown report.ins.items
   pub outputs : AreLayouts report.slowdown report.outs.items
   pub ins : sum_by columns_of (map st_tree report.ins.items) < length n.cells

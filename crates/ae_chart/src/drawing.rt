@@ -147,7 +147,7 @@ fn write_item(out: &mut String, alloc: Global, item: Item<'_>) -> Result<(), All
 
 // What the circuit costs, and all items.
 fn write_items(out: &mut String, alloc: Global, costed: &Costed) -> Result<(), AllocError> {
-    let slowdown = costed.slowdown();
+    let slowdown = costed.slowdown().clocks();
     let latency = costed.costs().latency();
     let load = costed.costs().load();
     writeln!(out, "slowdown {slowdown}, latency {latency}, load {load}")?;

@@ -1,18 +1,15 @@
 // The load of a program that only moves words.
 
-ghost use Rattle.std.specs.Prelude.{◌<◌, ◌≤◌};
-
 use ae_compile::{CompileFault, typed};
 use ae_fuse::fuse;
 use ae_rewrite::{PlanFault, schedule};
 use ae_seq::Typed;
+use ae_sttype::Slowdown;
 use std::alloc::{AllocError, Global};
 
 // The load of a program at a slowdown; none where a line computes or has no layout.
-fn load_at(alloc: Global, program: &Typed, slowdown: u32) -> Result<Option<u64>, AllocError>
-    requires some { 0 < slowdown }
-    requires most { slowdown ≤ 4096 }
-{
+fn load_at(alloc: Global, program: &Typed, slowdown: Slowdown) -> Result<Option<u64>, AllocError> {
+    slowdown.limits();
     match schedule(alloc, program, slowdown) {
         Ok(schedule) => match fuse(alloc, program, &schedule)? {
             Some(moves) => Ok(Some(moves.load())),
@@ -25,10 +22,11 @@ fn load_at(alloc: Global, program: &Typed, slowdown: u32) -> Result<Option<u64>,
 
 /// The load of a program that only moves words, of one move for each result; none of one that computes, or has no types or no
 /// layouts.
-pub fn load_of_moves(alloc: Global, part: &[u8], slowdown: u32) -> Result<Option<u64>, AllocError>
-    requires some { 0 < slowdown }
-    requires most { slowdown ≤ 4096 }
-{
+pub fn load_of_moves(
+    alloc: Global,
+    part: &[u8],
+    slowdown: Slowdown,
+) -> Result<Option<u64>, AllocError> {
     if part.len() > 16_777_216 {
         return Ok(None);
     }

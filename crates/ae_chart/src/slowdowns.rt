@@ -12,6 +12,7 @@ use ae_fuse::{WordLabels, labels_of};
 use ae_items::{KitFault, lanes, layout_of, program_part};
 use ae_rewrite::{PlanFault, StFunc, StProgram, schedule};
 use ae_seq::Typed;
+use ae_sttype::Slowdown;
 use ae_why::Watch;
 use std::alloc::{AllocError, Global};
 
@@ -102,7 +103,7 @@ fn write_row(out: &mut String, csv: bool, row: Row) -> Result<(), AllocError> {
 fn kept_labels(alloc: Global, program: &Typed) -> Result<Option<WordLabels>, KitFault>
     ensures { IfOk result (λ o. IfSome o (λ l. AreLabels (program_tree program.now) l)) }
 {
-    match schedule(alloc, program, 1) {
+    match schedule(alloc, program, Slowdown::one()) {
         Ok(schedule) => {
             let found = labels_of(alloc, program, &schedule)?;
             Ok(found)
@@ -159,7 +160,7 @@ fn row_under(
     program: &Typed,
     labels: &Option<WordLabels>,
     moves: &mut KnownMoves,
-    slowdown: u32,
+    slowdown: Slowdown,
     schedule: &StProgram,
 ) -> Result<Option<Row>, KitFault>
     requires schedule { (slowdown : ℕ) × (0 < slowdown) × (slowdown ≤ 4096) × IsSchedule (program_tree program.now) slowdown (st_func_trees schedule.now) }
@@ -170,7 +171,7 @@ fn row_under(
         None => computed(alloc, schedule, moves)?,
     };
     match (costs, schedule.instance(schedule.count().saturating_sub(1))) {
-        (Some(costs), Some(main)) => Ok(Some(row_of(slowdown, costs, main))),
+        (Some(costs), Some(main)) => Ok(Some(row_of(slowdown.clocks(), costs, main))),
         _ => Ok(None),
     }
 }
@@ -181,12 +182,11 @@ fn costed(
     program: &Typed,
     labels: &Option<WordLabels>,
     moves: &mut KnownMoves,
-    slowdown: u32,
+    slowdown: Slowdown,
 ) -> Result<Option<Row>, KitFault>
-    requires some { 0 < slowdown }
-    requires most { slowdown ≤ 4096 }
-    requires labels { IfSome labels.now (λ l. AreLabels (program_tree program.now) l) }
+    requires { IfSome labels.now (λ l. AreLabels (program_tree program.now) l) }
 {
+    slowdown.limits();
     match schedule(alloc, program, slowdown) {
         Ok(schedule) => row_under(alloc, program, labels, moves, slowdown, &schedule),
         Err(PlanFault::NoSchedule { line: _ }) => Ok(None),
@@ -207,8 +207,12 @@ fn write_rows<W: Watch>(
 {
     let mut moves = KnownMoves::new(alloc);
     let mut least = u64::MAX;
-    for slowdown in range.from.max(1)..range.to.min(4096).saturating_add(1) {
-        watch.step("slowdown", slowdown, range.to);
+    let to = range.to.min(4096);
+    for clocks in range.from.max(1)..to.saturating_add(1) {
+        let Some(slowdown) = Slowdown::of(clocks) else {
+            continue;
+        };
+        watch.step("slowdown", clocks, to);
         if let Some(row) = costed(alloc, program, labels, &mut moves, slowdown)? {
             if !range.best || row.costs.load < least {
                 write_row(out, range.csv, row)?;

@@ -181,7 +181,7 @@ fn write_head(out: &mut String, costed: &Costed) -> Result<(), AllocError> {
     writeln!(
         out,
         "<text x=\"4\" y=\"16\" class=\"title\">slowdown {}, latency {}, load {}: the elements of block 0</text>",
-        costed.slowdown(),
+        costed.slowdown().clocks(),
         costed.costs().latency(),
         costed.costs().load()
     )

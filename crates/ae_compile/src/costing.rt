@@ -20,6 +20,7 @@ use ae_delay::{DelayFault, Timing, arrivals_within};
 use ae_fuse::fuse;
 use ae_rewrite::{PlanFault, StFunc, StProgram, schedule};
 use ae_seq::{Func, Typed};
+use ae_sttype::Slowdown;
 use std::alloc::Global;
 use std::marker::Model;
 
@@ -29,11 +30,11 @@ pub const LOAD_LIMIT: u32 = 100_000;
 /// The greatest load of a circuit that gets an enable.
 pub const STALL_LIMIT: u32 = 50_000;
 
-/// A typed program with its schedule under a slowdown of 1 to 4,096, and the costs of that, whose load is at most
+/// A typed program with its schedule under a slowdown, and the costs of that, whose load is at most
 /// `LOAD_LIMIT`.
 #[derive(Drop)]
 pub struct Costed {
-    slowdown: u32,
+    slowdown: Slowdown,
     program: Typed,
     schedule: StProgram,
     costs: Costs,
@@ -56,7 +57,7 @@ impl Model for Costed {
 
 impl Costed {
     /// The clocks of a block of the program function.
-    pub fn slowdown(&self) -> u32
+    pub fn slowdown(&self) -> Slowdown
         ensures { result ≡ self.now.slowdown }
     {
         self.slowdown
@@ -103,10 +104,12 @@ impl Costed {
     }
 }
 
-fn scheduled(alloc: Global, part: &[u8], slowdown: u32) -> Result<(Typed, StProgram), CompileFault>
-    requires part { length part.now < 4294967295 }
-    requires some { 0 < slowdown }
-    requires limit { slowdown ≤ 4096 }
+fn scheduled(
+    alloc: Global,
+    part: &[u8],
+    slowdown: Slowdown,
+) -> Result<(Typed, StProgram), CompileFault>
+    requires { length part.now < 4294967295 }
     ensures scheduled { IfOk result (λ x. IsScheduled part.now slowdown (program_tree x.0) (st_func_trees x.1)) }
     ensures formed { IfOk result (λ x. IsTrue (formed (program_tree x.0))) }
     ensures sound { IfOk result (λ x. IsSound (st_func_trees x.1)) }
@@ -168,20 +171,24 @@ fn find_costs(
     }
 }
 
-/// The program of a text with its schedule under a slowdown of 1 to 4,096, and the costs of that (docs/COSTS.md); or why it
+/// The program of a text with its schedule under a slowdown, and the costs of that (docs/COSTS.md); or why it
 /// has none: its first bad line, the first line without a type or past a limit of types, the first line without a layout, or
 /// the first line at which the load passes the limit handed in, of at most `LOAD_LIMIT`. `Memory` comes only for want of
 /// memory.
-pub fn cost(alloc: Global, part: &[u8], slowdown: u32, limit: u32) -> Result<Costed, CompileFault>
+pub fn cost(
+    alloc: Global,
+    part: &[u8],
+    slowdown: Slowdown,
+    limit: u32,
+) -> Result<Costed, CompileFault>
     requires part { length part.now < 4294967295 }
-    requires some { 0 < slowdown }
-    requires most { slowdown ≤ 4096 }
     requires limit { limit ≤ load_limit }
     ensures costed { IfOk result (λ c. IsCosted limit part.now slowdown (program_tree c.program) (st_func_trees c.schedule)) }
     ensures slowdown { IfOk result (λ c. c.slowdown ≡ slowdown) }
     ensures known { IfOk result (λ c. IsKnown limit (program_tree c.program) c.slowdown (st_func_trees c.schedule) c.costs) }
     ensures refused { IfErr result (λ f. IsCostFault limit part.now slowdown f) }
 {
+    slowdown.limits();
     let (program, schedule) = scheduled(alloc, part, slowdown)?;
     let costs = find_costs(alloc, &program, &schedule, limit)?;
     Ok(Costed {

@@ -15,6 +15,7 @@ use ae_compile::{
 };
 use ae_demo::demos_are_accepted;
 use ae_play::{Sums, sum_clocks};
+use ae_sttype::Slowdown;
 use itoa::Buffer;
 use std::alloc::{AllocError, Global};
 
@@ -144,6 +145,18 @@ fn memory_alone(fault: CompileFault) -> OutOfMemory
     }
 }
 
+// The slowdown of a demo.
+fn slowdown_of(size: u32) -> Slowdown
+    requires some { 1 ≤ size }
+    requires limit { size ≤ 64 }
+    ensures { result ≡ demo_slowdown size }
+{
+    match Slowdown::of(4 * size) {
+        Some(slowdown) => slowdown,
+        None => unreachable!(),
+    }
+}
+
 /// The text of the module of the generated program of a size, and the summary of its run on the generated input; without
 /// memory there is no text. The program is refused at no size, by a law.
 pub fn demo(alloc: Global, size: u32) -> Result<String, OutOfMemory>
@@ -153,7 +166,7 @@ pub fn demo(alloc: Global, size: u32) -> Result<String, OutOfMemory>
 {
     demos_are_accepted();
     let part = program_text(alloc, size)?;
-    match cost(alloc, part.as_bytes(), 4 * size, LOAD_LIMIT) {
+    match cost(alloc, part.as_bytes(), slowdown_of(size), LOAD_LIMIT) {
         Ok(costed) => demo_text(alloc, costed, size),
         Err(fault) => Err(memory_alone(fault)),
     }

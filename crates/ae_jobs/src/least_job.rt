@@ -9,12 +9,11 @@ use crate::status::Status;
 use ae_compile::{OutOfMemory, typed};
 use ae_least::{LeastFault, least_text};
 use ae_seq::Typed;
+use ae_sttype::Slowdown;
 use std::alloc::Global;
 
 // The text of a typed program, or a refusal.
-fn least_of(alloc: Global, p: &Typed, slowdown: u32) -> Result<Reply, OutOfMemory>
-    requires some { 0 < slowdown }
-    requires limit { slowdown ≤ 4096 }
+fn least_of(alloc: Global, p: &Typed, slowdown: Slowdown) -> Result<Reply, OutOfMemory>
     ensures { IfOk result (λ reply. IsLeastOf (program_tree p.now) slowdown reply.status (string_bytes reply.text)) }
 {
     match least_text(alloc, p, slowdown) {
@@ -30,10 +29,8 @@ fn least_of(alloc: Global, p: &Typed, slowdown: u32) -> Result<Reply, OutOfMemor
 
 /// The least latency of the program, and the words that show it, or a refusal; without memory there is no reply. No load is
 /// too large.
-pub fn least(alloc: Global, part: &[u8], slowdown: u32) -> Result<Reply, OutOfMemory>
-    requires part { length part.now < 4294967295 }
-    requires some { 0 < slowdown }
-    requires limit { slowdown ≤ 4096 }
+pub fn least(alloc: Global, part: &[u8], slowdown: Slowdown) -> Result<Reply, OutOfMemory>
+    requires { length part.now < 4294967295 }
     ensures { IfOk result (λ reply. IsLeast part.now slowdown reply.status (string_bytes reply.text)) }
 {
     match typed(alloc, part) {

@@ -13,6 +13,7 @@ use crate::plan_text::plan_text;
 use crate::reply::{Reply, refused_program};
 use crate::status::Status;
 use ae_compile::{Costed, Costs, LOAD_LIMIT, OutOfMemory, cost};
+use ae_sttype::Slowdown;
 use std::alloc::Global;
 
 fn planned(alloc: Global, costed: &Costed) -> Result<String, OutOfMemory>
@@ -31,10 +32,8 @@ fn planned(alloc: Global, costed: &Costed) -> Result<String, OutOfMemory>
 }
 
 /// The text of `plan`, or a refusal.
-pub fn plan(alloc: Global, part: &[u8], slowdown: u32) -> Result<Reply, OutOfMemory>
-    requires part { length part.now < 4294967295 }
-    requires some { 0 < slowdown }
-    requires limit { slowdown ≤ 4096 }
+pub fn plan(alloc: Global, part: &[u8], slowdown: Slowdown) -> Result<Reply, OutOfMemory>
+    requires { length part.now < 4294967295 }
     ensures { IfOk result (λ reply. IsPlanned part.now slowdown reply.status (string_bytes reply.text)) }
 {
     match cost(alloc, part, slowdown, LOAD_LIMIT) {
@@ -61,10 +60,8 @@ fn tabled(alloc: Global, costed: &Costed) -> Result<String, OutOfMemory>
 }
 
 /// The table of `cost`, or a refusal.
-pub fn cost_of_lines(alloc: Global, part: &[u8], slowdown: u32) -> Result<Reply, OutOfMemory>
-    requires part { length part.now < 4294967295 }
-    requires some { 0 < slowdown }
-    requires limit { slowdown ≤ 4096 }
+pub fn cost_of_lines(alloc: Global, part: &[u8], slowdown: Slowdown) -> Result<Reply, OutOfMemory>
+    requires { length part.now < 4294967295 }
     ensures { IfOk result (λ reply. IsTabled part.now slowdown reply.status (string_bytes reply.text)) }
 {
     match cost(alloc, part, slowdown, LOAD_LIMIT) {

@@ -13,7 +13,7 @@ use ae_compile::Costs;
 use ae_delay::layout;
 use ae_rewrite::StFunc;
 use ae_seq::{Func, Node, Param};
-use ae_sttype::StType;
+use ae_sttype::{Slowdown, StType};
 use itoa::Buffer;
 use std::alloc::{AllocError, Global};
 
@@ -127,10 +127,10 @@ fn write_results(
 }
 
 // The lines of costs.
-fn write_costs(out: &mut String, slowdown: u32, costs: &Costs) -> Result<(), AllocError>
+fn write_costs(out: &mut String, slowdown: Slowdown, costs: &Costs) -> Result<(), AllocError>
     ensures { OnOk result (string_bytes out.new ≡ string_bytes out.old ++ cost_lines slowdown (whole_costs costs.now)) }
 {
-    write_number(out, "slowdown", u64::from(slowdown))?;
+    write_number(out, "slowdown", u64::from(slowdown.clocks()))?;
     write_number(out, "latency", u64::from(costs.latency()))?;
     write_number(out, "muls", u64::from(costs.muls()))?;
     write_number(out, "load", costs.load())
@@ -156,7 +156,7 @@ fn write_items(
 /// The costs of a program function, and when and in which layout each of its items and results arrives.
 pub fn plan_text(
     alloc: Global,
-    slowdown: u32,
+    slowdown: Slowdown,
     costs: &Costs,
     func: &Func,
     instance: &StFunc,

@@ -22,7 +22,7 @@ use ae_delay::layout;
 use ae_parse::{RowFault, read_rows};
 use ae_play::write_clocks;
 use ae_rewrite::StFunc;
-use ae_sttype::StType;
+use ae_sttype::{Slowdown, StType};
 use std::alloc::Global;
 
 /// What a run is written as.
@@ -35,16 +35,15 @@ pub enum Form {
 }
 
 /// How many clocks a run of so many blocks shows.
-pub fn clock_count(slowdown: u32, latency: u32, blocks: usize) -> u64
-    requires few { blocks < 2 ^ 32 }
-    requires limit { slowdown ≤ 4096 }
+pub fn clock_count(slowdown: Slowdown, latency: u32, blocks: usize) -> u64
+    requires { blocks < 2 ^ 32 }
     ensures is { result ≡ clock_count slowdown latency blocks }
     ensures few { result < 2 ^ 45 }
 {
     if blocks == 0 {
         return 0;
     }
-    u64::from(latency) + blocks as u64 * u64::from(slowdown)
+    u64::from(latency) + blocks as u64 * u64::from(slowdown.clocks())
 }
 
 // How many words a layout has in a clock.
@@ -229,14 +228,12 @@ pub fn run(
     alloc: Global,
     part: &[u8],
     rest: &[u8],
-    slowdown: u32,
+    slowdown: Slowdown,
     fill: u64,
     form: Form,
 ) -> Result<Reply, OutOfMemory>
     requires part { length part.now < 4294967295 }
     requires rest { length rest.now < 2 ^ 32 }
-    requires some { 0 < slowdown }
-    requires limit { slowdown ≤ 4096 }
     ensures { IfOk result (λ reply. IsPlayed form slowdown fill part.now (rows rest.now) reply.status (string_bytes reply.text)) }
 {
     match cost(alloc, part, slowdown, LOAD_LIMIT) {

@@ -6,13 +6,12 @@ ghost use Rattle.ae_jobs.specs.Schedules.{IsStallReply};
 use crate::reply::{Reply, refused_program};
 use crate::status::Status;
 use ae_compile::{OutOfMemory, STALL_LIMIT, compile_stalled, cost, stalled_text};
+use ae_sttype::Slowdown;
 use std::alloc::Global;
 
 /// The text of the program's module with a stall input, or a refusal; without memory there is no reply.
-pub fn stall(alloc: Global, part: &[u8], slowdown: u32) -> Result<Reply, OutOfMemory>
-    requires part { length part.now < 4294967295 }
-    requires some { 0 < slowdown }
-    requires limit { slowdown ≤ 4096 }
+pub fn stall(alloc: Global, part: &[u8], slowdown: Slowdown) -> Result<Reply, OutOfMemory>
+    requires { length part.now < 4294967295 }
     ensures { IfOk result (λ reply. IsStallReply part.now slowdown reply.status (string_bytes reply.text)) }
 {
     match cost(alloc, part, slowdown, STALL_LIMIT) {

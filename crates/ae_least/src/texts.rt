@@ -18,6 +18,7 @@ use crate::others::{main_func, other_line};
 use ae_fuse::{Certificate, Fused, fuse, latency_is_least};
 use ae_rewrite::{PlanFault, StProgram, schedule};
 use ae_seq::Typed;
+use ae_sttype::Slowdown;
 use std::alloc::{AllocError, Global};
 
 // The port of a word of a result, of which there are so many.
@@ -67,10 +68,8 @@ fn lines(
 }
 
 // The schedule of a movement program.
-fn scheduled(alloc: Global, p: &Typed, slowdown: u32) -> Result<StProgram, LeastFault>
-    requires some { 0 < slowdown }
-    requires limit { slowdown ≤ 4096 }
-    requires moves { is_movement (program_tree p.now) ≡ true }
+fn scheduled(alloc: Global, p: &Typed, slowdown: Slowdown) -> Result<StProgram, LeastFault>
+    requires { is_movement (program_tree p.now) ≡ true }
     ensures schedule { IfOk result (λ s. IsSchedule (program_tree p.now) slowdown (st_func_trees s)) }
     ensures sound { IfOk result (λ s. IsSound (st_func_trees s)) }
     ensures laid { OnOk result (failing_line (program_tree p.now) slowdown ≡ None) }
@@ -97,15 +96,14 @@ fn moved(alloc: Global, p: &Typed, s: &StProgram) -> Result<Fused, AllocError>
 }
 
 // The text of a movement program, or the line without a layout.
-fn movement_text(alloc: Global, p: &Typed, slowdown: u32) -> Result<String, LeastFault>
-    requires some { 0 < slowdown }
-    requires limit { slowdown ≤ 4096 }
-    requires moves { is_movement (program_tree p.now) ≡ true }
+fn movement_text(alloc: Global, p: &Typed, slowdown: Slowdown) -> Result<String, LeastFault>
+    requires { is_movement (program_tree p.now) ≡ true }
     ensures text { IfOk result (λ text. IsLeastText (program_tree p.now) slowdown (string_bytes text)) }
     ensures laid { OnOk result (failing_line (program_tree p.now) slowdown ≡ None) }
     ensures refused { IfErr result (λ fault. IsLeastFault (program_tree p.now) slowdown fault) }
 {
     latency_is_least();
+    slowdown.limits();
     let schedule = scheduled(alloc, p, slowdown)?;
     let fused = moved(alloc, p, &schedule)?;
     let outs = main_func(p).results.len();
@@ -113,15 +111,13 @@ fn movement_text(alloc: Global, p: &Typed, slowdown: u32) -> Result<String, Leas
     Ok(text)
 }
 
-/// The least latency of a movement program under a slowdown of 1 to 4,096, in a line `latency L`, and where L is above 0 a line
+/// The least latency of a movement program under a slowdown, in a line `latency L`, and where L is above 0 a line
 /// `word O clock C from I clock K` behind it: the port and the clock of the first word of the results, by result, element and
 /// word, that stands L clocks before the word of a parameter that it is, and the port and the clock of that. No well-formed
 /// module that is correct for the program has a smaller latency. A fault tells the first line of the program function that
 /// does more than move words, or the first line without a layout; `Memory` comes only for want of memory. No load is too
 /// large.
-pub fn least_text(alloc: Global, p: &Typed, slowdown: u32) -> Result<String, LeastFault>
-    requires some { 0 < slowdown }
-    requires limit { slowdown ≤ 4096 }
+pub fn least_text(alloc: Global, p: &Typed, slowdown: Slowdown) -> Result<String, LeastFault>
     ensures text { IfOk result (λ text. IsLeastText (program_tree p.now) slowdown (string_bytes text)) }
     ensures laid { OnOk result (failing_line (program_tree p.now) slowdown ≡ None) }
     ensures refused { IfErr result (λ fault. IsLeastFault (program_tree p.now) slowdown fault) }

@@ -1,6 +1,6 @@
 // The run of a circuit on blocks of words.
 
-ghost use Rattle.std.specs.Prelude.{◌≡◌, ◌+◌, ◌*◌, ◌≤◌, ◌++◌, ◌∷◌, [], ℕ, List, length, map, OnOk, IfOk, All};
+ghost use Rattle.std.specs.Prelude.{◌≡◌, ◌+◌, ◌*◌, ◌++◌, ◌∷◌, [], ℕ, List, length, map, OnOk, IfOk, All};
 ghost use Rattle.ae_sttype.specs.StTree.{st_tree, time};
 ghost use Rattle.ae_sttype.specs.Size.{IsInSize};
 ghost use Rattle.ae_netlist.specs.Rows.{AreInputs, IsRunWith, filled};
@@ -14,7 +14,7 @@ use crate::rows::{push_block, push_fill};
 use crate::stepping::{Monitor, Stimulus, play};
 use ae_netlist::{Netlist, fill_begins, has_one_run_with};
 use ae_sim::Sim;
-use ae_sttype::StType;
+use ae_sttype::{Slowdown, StType};
 use std::alloc::{AllocError, Global};
 
 /// So many blocks of words, each value's in row-major order, of which one is taken every `slowdown` clocks; the fill stands
@@ -24,19 +24,20 @@ pub struct Blocks<'a> {
     pub ins: &'a [StType],
     pub words: &'a [u64],
     pub count: usize,
-    pub slowdown: u32,
+    pub slowdown: Slowdown,
     pub fill: u64,
 }
 
 impl Stimulus for Blocks<'_> {
-    ghost has = { λ b c. (1 ≤ b.slowdown) × All (λ s. IsInSize s × (time s ≡ b.slowdown)) (map st_tree b.ins.now) × (length b.words.now ≡ b.count * size_of (map st_tree b.ins.now)) };
+    ghost has = { λ b c. All (λ s. IsInSize s × (time s ≡ b.slowdown)) (map st_tree b.ins.now) × (length b.words.now ≡ b.count * size_of (map st_tree b.ins.now)) };
 
     ghost given = { λ b c. clock_row b.slowdown b.fill (map st_tree b.ins.now) (blocks_of (map st_tree b.ins.now) b.count b.words.now) c };
 
     fn set(&self, row: &mut Vec<u64>, clock: u32) -> Result<(), AllocError> {
         row.clear();
         row.push(0)?;
-        let block = (clock / self.slowdown) as usize;
+        let slowdown = self.slowdown.clocks();
+        let block = (clock / slowdown) as usize;
         if block < self.count {
             let size = self.words.len() / self.count;
             let first = block * size;
@@ -44,7 +45,7 @@ impl Stimulus for Blocks<'_> {
                 row,
                 self.ins,
                 &self.words[first..first + size],
-                clock % self.slowdown,
+                clock % slowdown,
                 self.fill,
             )
         } else {
@@ -85,7 +86,6 @@ pub fn play_blocks<M: Monitor>(
     monitor: &M,
     kept: &mut M::Kept,
 ) -> Result<(), AllocError>
-    requires some { 1 ≤ blocks.now.slowdown }
     requires ins { All (λ s. IsInSize s × (time s ≡ blocks.now.slowdown)) (map st_tree blocks.now.ins.now) }
     requires whole { length blocks.now.words.now ≡ blocks.now.count * size_of (map st_tree blocks.now.ins.now) }
     requires rows { (n : ℕ) → All (AreInputs nl.now.cells) (fed_rows blocks.now.slowdown blocks.now.fill (map st_tree blocks.now.ins.now) (blocks_of (map st_tree blocks.now.ins.now) blocks.now.count blocks.now.words.now) n) }

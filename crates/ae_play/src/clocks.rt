@@ -1,6 +1,6 @@
 // The lines of a run.
 
-ghost use Rattle.std.specs.Prelude.{◌≡◌, ◌+◌, ◌-◌, ◌*◌, ◌/◌, ◌%◌, ◌<◌, ◌≤◌, ◌^◌, ◌++◌, ◌∷◌, [], ℕ, List, length, map, OnOk, All, string_bytes};
+ghost use Rattle.std.specs.Prelude.{◌≡◌, ◌+◌, ◌-◌, ◌*◌, ◌/◌, ◌%◌, ◌<◌, ◌^◌, ◌++◌, ◌∷◌, [], ℕ, List, length, map, OnOk, All, string_bytes};
 ghost use Rattle.ae_sttype.specs.StTree.{st_tree, time};
 ghost use Rattle.ae_sttype.specs.Size.{IsInSize};
 ghost use Rattle.ae_netlist.specs.Rows.{AreInputs};
@@ -10,36 +10,33 @@ ghost use Rattle.ae_play.specs.Lines.{IsPlayedText, clock_count, clock_line, mar
 use crate::blocks::{Blocks, play_blocks};
 use crate::stepping::Monitor;
 use ae_netlist::Netlist;
-use ae_sttype::StType;
+use ae_sttype::{Slowdown, StType};
 use itoa::Buffer;
 use std::alloc::{AllocError, Global};
 
 /// How many clocks are shown.
-pub fn clock_count(slowdown: u32, latency: u32, blocks: usize) -> u32
-    requires some { 1 ≤ slowdown }
+pub fn clock_count(slowdown: Slowdown, latency: u32, blocks: usize) -> u32
     requires few { clock_count slowdown latency blocks < 2 ^ 32 }
     ensures { result ≡ clock_count slowdown latency blocks }
 {
     if blocks == 0 {
         0
     } else {
-        latency + blocks as u32 * slowdown
+        latency + blocks as u32 * slowdown.clocks()
     }
 }
 
 /// Whether an element of a result stands in the clock.
-pub fn stands(s: &StType, slowdown: u32, latency: u32, clock: u32) -> bool
-    requires sized { IsInSize (st_tree s.now) }
-    requires some { 1 ≤ slowdown }
+pub fn stands(s: &StType, slowdown: Slowdown, latency: u32, clock: u32) -> bool
+    requires { IsInSize (st_tree s.now) }
     ensures { result ≡ stands slowdown latency clock (st_tree s.now) }
 {
-    latency <= clock && s.live((clock - latency) % slowdown)
+    latency <= clock && s.live((clock - latency) % slowdown.clocks())
 }
 
 // The mark of a result in the clock.
-fn mark(s: &StType, slowdown: u32, latency: u32, clock: u32) -> &'static str
-    requires sized { IsInSize (st_tree s.now) }
-    requires some { 1 ≤ slowdown }
+fn mark(s: &StType, slowdown: Slowdown, latency: u32, clock: u32) -> &'static str
+    requires { IsInSize (st_tree s.now) }
     ensures { result.now ≡ mark slowdown latency clock (st_tree s.now) ∷ [] }
 {
     if stands(s, slowdown, latency, clock) {
@@ -53,12 +50,11 @@ fn mark(s: &StType, slowdown: u32, latency: u32, clock: u32) -> &'static str
 fn write_marks(
     out: &mut String,
     outs: &[StType],
-    slowdown: u32,
+    slowdown: Slowdown,
     latency: u32,
     clock: u32,
 ) -> Result<(), AllocError>
-    requires sized { All (λ s. IsInSize s × (time s ≡ slowdown)) (map st_tree outs.now) }
-    requires some { 1 ≤ slowdown }
+    requires { All (λ s. IsInSize s × (time s ≡ slowdown)) (map st_tree outs.now) }
     ensures { OnOk result (string_bytes out.new ≡ string_bytes out.old ++ map (mark slowdown latency clock) (map st_tree outs.now)) }
 {
     for s in outs {
@@ -82,14 +78,14 @@ pub fn write_words(out: &mut String, words: &[u64]) -> Result<(), AllocError>
 #[derive(Clone, Copy)]
 struct LineWriter<'a> {
     outs: &'a [StType],
-    slowdown: u32,
+    slowdown: Slowdown,
     latency: u32,
 }
 
 impl Monitor for LineWriter<'_> {
     type Kept = String;
 
-    ghost within = { λ m c out. (1 ≤ m.slowdown) × All (λ s. IsInSize s × (time s ≡ m.slowdown)) (map st_tree m.outs.now) };
+    ghost within = { λ m c out. All (λ s. IsInSize s × (time s ≡ m.slowdown)) (map st_tree m.outs.now) };
 
     ghost takes = { λ m c row words old new. string_bytes new ≡ string_bytes old ++ clock_line m.slowdown m.latency (map st_tree m.outs.now) c words };
 
@@ -119,14 +115,12 @@ pub fn write_clocks(
     nl: &Netlist,
     ins: &[StType],
     outs: &[StType],
-    slowdown: u32,
+    slowdown: Slowdown,
     latency: u32,
     words: &[u64],
     blocks: usize,
     fill: u64,
 ) -> Result<(), AllocError>
-    requires some { 1 ≤ slowdown }
-    requires most { slowdown ≤ 4096 }
     requires ins { All (λ s. IsInSize s × (time s ≡ slowdown)) (map st_tree ins.now) }
     requires outs { All (λ s. IsInSize s × (time s ≡ slowdown)) (map st_tree outs.now) }
     requires few { clock_count slowdown latency blocks < 2 ^ 32 }

@@ -14,7 +14,7 @@ use crate::blocks::{Blocks, play_blocks};
 use crate::clocks::{clock_count, stands};
 use crate::stepping::Monitor;
 use ae_netlist::Netlist;
-use ae_sttype::StType;
+use ae_sttype::{Slowdown, StType};
 use std::alloc::{AllocError, Global};
 
 /// What is summed of a run.
@@ -29,9 +29,8 @@ pub struct Sums {
 }
 
 // Whether an element of each result stands in the clock.
-fn all_stand(outs: &[StType], slowdown: u32, latency: u32, clock: u32) -> bool
-    requires sized { All (λ s. IsInSize s × (time s ≡ slowdown)) (map st_tree outs.now) }
-    requires some { 1 ≤ slowdown }
+fn all_stand(outs: &[StType], slowdown: Slowdown, latency: u32, clock: u32) -> bool
+    requires { All (λ s. IsInSize s × (time s ≡ slowdown)) (map st_tree outs.now) }
     ensures { result ≡ all_stand slowdown latency (map st_tree outs.now) clock }
 {
     for s in outs {
@@ -80,14 +79,14 @@ fn with_clock(sums: Sums, outputs: u32, words: u128, stands: bool) -> Sums
 #[derive(Clone, Copy)]
 struct WordSummer<'a> {
     outs: &'a [StType],
-    slowdown: u32,
+    slowdown: Slowdown,
     latency: u32,
 }
 
 impl Monitor for WordSummer<'_> {
     type Kept = Sums;
 
-    ghost within = { λ m c sums. (1 ≤ m.slowdown) × All (λ s. IsInSize s × (time s ≡ m.slowdown)) (map st_tree m.outs.now) × HaveRoom c sums };
+    ghost within = { λ m c sums. All (λ s. IsInSize s × (time s ≡ m.slowdown)) (map st_tree m.outs.now) × HaveRoom c sums };
 
     ghost takes = { λ m c row words old new. AreWithClock (all_stand m.slowdown m.latency (map st_tree m.outs.now) c) words old new };
 
@@ -112,14 +111,12 @@ pub fn sum_clocks(
     nl: &Netlist,
     ins: &[StType],
     outs: &[StType],
-    slowdown: u32,
+    slowdown: Slowdown,
     latency: u32,
     words: &[u64],
     blocks: usize,
     fill: u64,
 ) -> Result<Sums, AllocError>
-    requires some { 1 ≤ slowdown }
-    requires most { slowdown ≤ 4096 }
     requires ins { All (λ s. IsInSize s × (time s ≡ slowdown)) (map st_tree ins.now) }
     requires outs { All (λ s. IsInSize s × (time s ≡ slowdown)) (map st_tree outs.now) }
     requires few { clock_count slowdown latency blocks < 2 ^ 32 }

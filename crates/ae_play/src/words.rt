@@ -1,6 +1,6 @@
 // The words of all ports in a run.
 
-ghost use Rattle.std.specs.Prelude.{◌≡◌, ◌-◌, ◌*◌, ◌<◌, ◌≤◌, ◌^◌, ◌++◌, ℕ, List, length, map, OnOk, IfOk, All};
+ghost use Rattle.std.specs.Prelude.{◌≡◌, ◌-◌, ◌*◌, ◌<◌, ◌^◌, ◌++◌, ℕ, List, length, map, OnOk, IfOk, All};
 ghost use Rattle.ae_sttype.specs.StTree.{st_tree, time};
 ghost use Rattle.ae_sttype.specs.Size.{IsInSize};
 ghost use Rattle.ae_netlist.specs.Rows.{AreInputs};
@@ -12,7 +12,7 @@ use crate::blocks::{Blocks, play_blocks};
 use crate::clocks::clock_count;
 use crate::stepping::Monitor;
 use ae_netlist::Netlist;
-use ae_sttype::StType;
+use ae_sttype::{Slowdown, StType};
 use std::alloc::{AllocError, Global};
 
 // Keeps the words of all ports of each clock.
@@ -44,13 +44,12 @@ pub fn clock_words(
     alloc: Global,
     nl: &Netlist,
     ins: &[StType],
-    slowdown: u32,
+    slowdown: Slowdown,
     latency: u32,
     words: &[u64],
     blocks: usize,
     fill: u64,
 ) -> Result<Vec<u64>, AllocError>
-    requires some { 1 ≤ slowdown }
     requires ins { All (λ s. IsInSize s × (time s ≡ slowdown)) (map st_tree ins.now) }
     requires few { clock_count slowdown latency blocks < 2 ^ 32 }
     requires whole { length words.now ≡ blocks * size_of (map st_tree ins.now) }

@@ -102,15 +102,15 @@ fn empty_lists(alloc: Global, count: usize) -> Result<Vec<Vec<u32>>, AllocError>
     Ok(lists)
 }
 
-/// The budgets of each function below the program function that are reached with this slowdown.
-pub fn reached(alloc: Global, p: &Typed, slowdown: u32) -> Result<Vec<Vec<u32>>, AllocError>
-    requires time { 0 < slowdown }
+/// The budgets of each function below the program function that are reached at a slowdown of so many clocks.
+pub fn reached(alloc: Global, p: &Typed, clocks: u32) -> Result<Vec<Vec<u32>>, AllocError>
+    requires time { 0 < clocks }
     requires formed { IsTrue (formed (program_tree p.now)) }
-    ensures { IfOk result (λ v. Reaches (program_tree p.now) slowdown 0 (number_lists v.items)) }
+    ensures { IfOk result (λ v. Reaches (program_tree p.now) clocks 0 (number_lists v.items)) }
 {
     let main = main_of(p.program());
     let mut needs = empty_lists(alloc, main as usize)?;
-    visit(p, &mut needs, main, slowdown)?;
+    visit(p, &mut needs, main, clocks)?;
     let mut func = main;
     while func > 0 {
         func -= 1;

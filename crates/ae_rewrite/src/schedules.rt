@@ -13,6 +13,7 @@ use crate::plan::{Plan, Row, main_of, plan_func};
 use crate::reach::reached;
 use crate::{StFunc, StProgram};
 use ae_seq::Typed;
+use ae_sttype::Slowdown;
 use std::alloc::{AllocError, AllocFailed, Global};
 use thiserror::Error;
 
@@ -128,14 +129,14 @@ fn plan_budgets(
 fn plan_all(
     alloc: Global,
     p: &Typed,
-    slowdown: u32,
+    clocks: u32,
     needs: &[Vec<u32>],
     instances: &mut Vec<StFunc>,
 ) -> Result<Vec<Vec<Row>>, PlanFault>
-    requires time { 0 < slowdown }
-    requires limit { slowdown ≤ 4096 }
+    requires time { 0 < clocks }
+    requires limit { clocks ≤ 4096 }
     requires formed { IsTrue (formed (program_tree p.now)) }
-    requires reaches { Reaches (program_tree p.now) slowdown 0 (number_lists needs.now) }
+    requires reaches { Reaches (program_tree p.now) clocks 0 (number_lists needs.now) }
     requires empty { instances.old.items ≡ [] }
     ensures few { OnOk result (length instances.new.items < 4096 * 4096) }
     ensures plans { IfOk result (λ rows. Plans (program_tree p.now) (row_lists rows.items) (st_func_trees instances.new.items)) }
@@ -157,14 +158,12 @@ fn append_rows(rows: &mut Vec<Vec<Row>>, own: Vec<Row>) -> Result<(), AllocError
     Ok(())
 }
 
-/// The schedule of a program whose blocks follow one another in so many clocks, 1 to 4,096: each function under each
+/// The schedule of a program whose blocks follow one another in so many clocks: each function under each
 /// budget that it is reached with, by the rules of docs/SPACE_TIME.md (after Durst et al., PLDI 2020). `NoSchedule` comes
 /// exactly where a line has no layout, and names the first: in a function its first line for its parameters, then its
 /// nodes in order, and for a node that calls or maps a function that function's line under its budget. `Memory` comes
 /// only for want of memory.
-pub fn schedule(alloc: Global, p: &Typed, slowdown: u32) -> Result<StProgram, PlanFault>
-    requires some { 0 < slowdown }
-    requires limit { slowdown ≤ 4096 }
+pub fn schedule(alloc: Global, p: &Typed, slowdown: Slowdown) -> Result<StProgram, PlanFault>
     ensures schedule { IfOk result (λ s. IsSchedule (program_tree p.now) slowdown (st_func_trees s)) }
     ensures layouts { IfOk result (λ s. AllFilled (st_func_trees s)) }
     ensures sound { IfOk result (λ s. IsSound (st_func_trees s)) }
@@ -172,10 +171,11 @@ pub fn schedule(alloc: Global, p: &Typed, slowdown: u32) -> Result<StProgram, Pl
     ensures failing { (line : ℕ) → result ≡ Err (PlanFault.NoSchedule line) → failing_line (program_tree p.now) slowdown ≡ Some line }
 {
     let main = main_of(p.program());
-    let needs = reached(alloc, p, slowdown)?;
+    let clocks = slowdown.clocks();
+    let needs = reached(alloc, p, clocks)?;
     let mut instances = Vec::new(alloc);
-    let rows = plan_all(alloc, p, slowdown, &needs, &mut instances)?;
-    let whole = plan_func(alloc, p, &rows, main, slowdown)?;
+    let rows = plan_all(alloc, p, clocks, &needs, &mut instances)?;
+    let whole = plan_func(alloc, p, &rows, main, clocks)?;
     append(&mut instances, whole)?;
     Ok(StProgram::new(instances))
 }

@@ -18,7 +18,7 @@ use ae_stream::{
     held_circuits_are_inside, held_marks_are_seen, wired_controls_are_driven,
     wired_controls_have_no_paths,
 };
-use ae_sttype::StType;
+use ae_sttype::{Slowdown, StType};
 use std::alloc::Global;
 
 // How many cells a circuit may have with the marks of its clocks.
@@ -48,7 +48,7 @@ fn later(a: u32, b: u32) -> u32
 }
 
 /// The last clock of a block in which an element of one of these layouts stands.
-fn last_beat(layouts: &[StType], slowdown: u32) -> u32
+fn last_beat(layouts: &[StType], slowdown: Slowdown) -> u32
     requires { AreLayouts slowdown layouts.now }
     ensures below { result < slowdown }
     ensures last { IsLastBeat (map st_tree layouts.now) result }
@@ -71,12 +71,10 @@ pub fn stream(
     nl: &Netlist,
     inputs: &[StType],
     outputs: &[StType],
-    slowdown: u32,
+    slowdown: Slowdown,
     latency: u32,
 ) -> Result<Netlist, NetFault>
     requires reset { slice_get nl.now.cells 0 ≡ Some reset_cell }
-    requires some { 1 ≤ slowdown }
-    requires most { slowdown ≤ 4096 }
     requires inputs { AreLayouts slowdown inputs.now }
     requires outputs { AreLayouts slowdown outputs.now }
     requires late { latency ≤ 1000000 }
@@ -98,7 +96,8 @@ pub fn stream(
     let mut marked = with_limit(alloc, nl, MARKED_LIMIT)?;
     let m = add_marks(alloc, &mut marked, inputs, outputs, slowdown, latency)?;
     marked.formed();
-    let wait = (latency + last_beat(outputs, slowdown)) / slowdown;
-    let new = wrap(alloc, &marked, m, latency / slowdown, wait)?;
+    let period = slowdown.clocks();
+    let wait = (latency + last_beat(outputs, slowdown)) / period;
+    let new = wrap(alloc, &marked, m, latency / period, wait)?;
     Ok(new)
 }

@@ -2,6 +2,7 @@
 use Rattle.std.specs.Prelude.{◌≡◌, ℕ, ◌<◌, ◌≤◌, ◌^◌, Bool, true, false, List, [], ◌∷◌, map, codes, String, string_bytes}
 use Rattle.std.specs.Fmt.{decimal}
 use Rattle.std.specs.declared.alloc.Global.{Global}
+use Rattle.ae_sttype.specs.Slowdowns.{IsSlowdown}
 use Rattle.ae_tool.specs.declared.command.Command.{Command}
 use Rattle.ae_tool.specs.declared.command.Command.TheVariants.{Check, Eval, Plan, Cost, Least, Build, Stall, Run, Wave, Unwave, Sim, Demo}
 
@@ -37,10 +38,6 @@ number_words (Run slowdown fill) = decimal slowdown ∷ decimal fill ∷ []
 number_words (Wave slowdown fill) = decimal slowdown ∷ decimal fill ∷ []
 number_words Unwave = []
 number_words (Sim fill) = decimal fill ∷ []
-
--- a slowdown within its limits
-abbrev pub IsSlowdown : ℕ → Type 0
-IsSlowdown s = (1 ≤ s) × (s ≤ 4096)
 
 -- a size of demos
 abbrev pub IsDemoSize : ℕ → Type 0

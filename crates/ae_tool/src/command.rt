@@ -2,10 +2,12 @@
 
 ghost use Rattle.std.specs.Prelude.{◌≡◌, ◌∷◌, [], ℕ, ◌<◌, ◌^◌, codes, MatchOption};
 ghost use Rattle.std.specs.Fmt.{decimal};
+ghost use Rattle.ae_sttype.specs.Slowdowns.{IsSlowdown};
 ghost use Rattle.ae_tool.specs.declared.command.Command.TheVariants.{Demo};
-ghost use Rattle.ae_tool.specs.Commands.{word_bytes, IsCommand, IsDemoSize, IsSlowdown, NamesNone, TakesInput, takes_whole};
+ghost use Rattle.ae_tool.specs.Commands.{word_bytes, IsCommand, IsDemoSize, NamesNone, TakesInput, takes_whole};
 
 use ae_parse::number;
+use ae_sttype::Slowdown;
 
 /// A job.
 #[derive(Clone, Copy)]
@@ -15,19 +17,19 @@ pub enum Command {
     /// `eval`: the program's results on each row.
     Eval,
     /// `plan S`: what the program's circuit costs, and when and how its items arrive.
-    Plan { slowdown: u32 },
+    Plan { slowdown: Slowdown },
     /// `cost S`: what each node line costs, as a table.
-    Cost { slowdown: u32 },
+    Cost { slowdown: Slowdown },
     /// `least S`: the least latency of a program that only moves words, and what shows it.
-    Least { slowdown: u32 },
+    Least { slowdown: Slowdown },
     /// `build S`: the text of the program's module.
-    Build { slowdown: u32 },
+    Build { slowdown: Slowdown },
     /// `stall S`: that text with one more input, `en`, which holds the circuit where it is 0.
-    Stall { slowdown: u32 },
+    Stall { slowdown: Slowdown },
     /// `run S FILL`: the text of `build S`, and the lines of the module's run on the rows.
-    Run { slowdown: u32, fill: u64 },
+    Run { slowdown: Slowdown, fill: u64 },
     /// `wave S FILL`: the same text in a comment, and the module's run on the rows as a value change dump.
-    Wave { slowdown: u32, fill: u64 },
+    Wave { slowdown: Slowdown, fill: u64 },
     /// `unwave`: the words of the wave that a value change dump holds.
     Unwave,
     /// `sim FILL`: the clock lines of the module that a text spells, on the rows.
@@ -49,11 +51,11 @@ pub fn command_named(words: &[String]) -> Option<Command>
 }
 
 /// The size of a demo, if the job is one.
-pub fn demo_size(command: Command) -> Option<u32>
-    ensures { MatchOption result (TakesInput command) (λ n. command ≡ Demo n) }
+pub fn demo_size(command: &Command) -> Option<u32>
+    ensures { MatchOption result (TakesInput command.now) (λ n. command.now ≡ Demo n) }
 {
     match command {
-        Command::Demo { size } => Some(size),
+        Command::Demo { size } => Some(*size),
         Command::Check | Command::Eval | Command::Unwave => None,
         Command::Plan { slowdown: _ } => None,
         Command::Cost { slowdown: _ } => None,
@@ -73,10 +75,10 @@ pub fn demo_size(command: Command) -> Option<u32>
 }
 
 /// Whether the job takes its input as one part, without rows.
-pub fn takes_whole(command: Command) -> bool
-    ensures { result ≡ takes_whole command }
+pub fn takes_whole(command: &Command) -> bool
+    ensures { result ≡ takes_whole command.now }
 {
-    matches!(&command, Command::Unwave)
+    matches!(command, Command::Unwave)
 }
 
 fn one_word(job: &str) -> Option<Command>
@@ -179,13 +181,13 @@ fn demo(size: &str) -> Option<Command>
 }
 
 // The slowdown that the digits write without leading zeros.
-fn slowdown_of(digits: &str) -> Option<u32>
+fn slowdown_of(digits: &str) -> Option<Slowdown>
     ensures { MatchOption result ((s : ℕ) → IsSlowdown s → digits.now ≡ decimal s → ⊥) (λ s. (digits.now ≡ decimal s) × IsSlowdown s) }
 {
     match plain_number(digits.as_bytes()) {
         Some(n) => {
-            if 1 <= n && n <= 4096 {
-                Some(n as u32)
+            if n <= 4096 {
+                Slowdown::of(n as u32)
             } else {
                 None
             }

@@ -1,7 +1,7 @@
 // What a call answers, without its input and output.
 
 ghost use Rattle.std.specs.Prelude.{List, ℕ, IfOk, string_bytes};
-ghost use Rattle.ae_tool.specs.Commands.{word_bytes, AreInRange, IsCommand, TakesInput};
+ghost use Rattle.ae_tool.specs.Commands.{word_bytes, IsCommand, TakesInput};
 ghost use Rattle.ae_tool.specs.Outcomes.{IsOutcome};
 
 use crate::answer::{INPUT_LIMIT, answer};
@@ -11,10 +11,9 @@ use ae_jobs::{Reply, Status, demo, refused};
 use std::alloc::Global;
 
 // What a job that takes its input answers.
-fn done(alloc: Global, command: Command, bytes: &[u8]) -> Result<Reply, OutOfMemory>
-    requires range { AreInRange command }
-    requires takes { TakesInput command }
-    ensures { IfOk result (λ reply. (words : List (List ℕ)) → IsCommand words command → IsOutcome words bytes.now reply.status (string_bytes reply.text)) }
+fn done(alloc: Global, command: &Command, bytes: &[u8]) -> Result<Reply, OutOfMemory>
+    requires { TakesInput command.now }
+    ensures { IfOk result (λ reply. (words : List (List ℕ)) → IsCommand words command.now → IsOutcome words bytes.now reply.status (string_bytes reply.text)) }
 {
     if bytes.len() > INPUT_LIMIT {
         return refused(alloc, Status::TooLong);
@@ -28,7 +27,7 @@ pub fn outcome(alloc: Global, words: &[String], bytes: &[u8]) -> Result<Reply, O
     ensures { IfOk result (λ reply. IsOutcome (word_bytes words.now) bytes.now reply.status (string_bytes reply.text)) }
 {
     match command_named(words) {
-        Some(command) => match demo_size(command) {
+        Some(command) => match demo_size(&command) {
             Some(size) => {
                 let text = demo(alloc, size)?;
                 Ok(Reply {
@@ -36,7 +35,7 @@ pub fn outcome(alloc: Global, words: &[String], bytes: &[u8]) -> Result<Reply, O
                     text,
                 })
             }
-            None => done(alloc, command, bytes),
+            None => done(alloc, &command, bytes),
         },
         None => refused(alloc, Status::Usage),
     }

@@ -2,7 +2,7 @@
 
 ghost use Rattle.std.specs.Prelude.{List, ℕ};
 ghost use Rattle.ae_tool.specs.Answers.{Puts, IsMade, Answers};
-ghost use Rattle.ae_tool.specs.Commands.{word_bytes, AreInRange, IsCommand, IsDemoSize, TakesInput};
+ghost use Rattle.ae_tool.specs.Commands.{word_bytes, IsCommand, IsDemoSize, TakesInput};
 
 use crate::answer::{INPUT_LIMIT, answer};
 use crate::command::{Command, command_named, demo_size};
@@ -24,13 +24,12 @@ fn put<K: Sink>(sink: &mut K, text: &[u8], status: Status) -> Status
 // Reads the input and answers the job.
 fn read_and_reply<S: Source, K: Sink>(
     alloc: Global,
-    command: Command,
+    command: &Command,
     source: &mut S,
     sink: &mut K,
 ) -> Status
-    requires range { AreInRange command }
-    requires takes { TakesInput command }
-    ensures { (ws : List (List ℕ)) → IsCommand ws command → Answers ws result (record { left = S.left source.old; faults = S.faults source.old }) (record { left = S.left source.new; faults = S.faults source.new }) (record { written = K.written sink.old; faults = K.faults sink.old; wants = K.wants sink.old; ends = K.ends sink.old }) (record { written = K.written sink.new; faults = K.faults sink.new; wants = K.wants sink.new; ends = K.ends sink.new }) }
+    requires { TakesInput command.now }
+    ensures { (ws : List (List ℕ)) → IsCommand ws command.now → Answers ws result (record { left = S.left source.old; faults = S.faults source.old }) (record { left = S.left source.new; faults = S.faults source.new }) (record { written = K.written sink.old; faults = K.faults sink.old; wants = K.wants sink.old; ends = K.ends sink.old }) (record { written = K.written sink.new; faults = K.faults sink.new; wants = K.wants sink.new; ends = K.ends sink.new }) }
 {
     match load(alloc, source, INPUT_LIMIT) {
         Ok(bytes) => match answer(alloc, command, &bytes) {
@@ -64,9 +63,9 @@ pub fn serve<S: Source, K: Sink>(
     ensures { Answers (word_bytes words.now) result (record { left = S.left source.old; faults = S.faults source.old }) (record { left = S.left source.new; faults = S.faults source.new }) (record { written = K.written sink.old; faults = K.faults sink.old; wants = K.wants sink.old; ends = K.ends sink.old }) (record { written = K.written sink.new; faults = K.faults sink.new; wants = K.wants sink.new; ends = K.ends sink.new }) }
 {
     match command_named(words) {
-        Some(command) => match demo_size(command) {
+        Some(command) => match demo_size(&command) {
             Some(size) => make(alloc, size, sink),
-            None => read_and_reply(alloc, command, source, sink),
+            None => read_and_reply(alloc, &command, source, sink),
         },
         None => put(sink, b"refused usage\n", Status::Usage),
     }

@@ -5,14 +5,14 @@ ghost use Rattle.ae_sttype.specs.StTree.{st_tree};
 ghost use Rattle.ae_verilog.specs.NetlistModule.{each_numbered};
 ghost use Rattle.ae_verilog.specs.ReportLines.{report_tree, number_line, enable_line, in_line, out_line, report_lines};
 
-use ae_sttype::StType;
+use ae_sttype::{Slowdown, StType};
 use std::alloc::AllocError;
 
 /// What is told of a module in the comment lines before it.
 #[derive(Debug, Drop)]
 pub struct Report {
     /// The clocks of a block.
-    pub slowdown: u32,
+    pub slowdown: Slowdown,
     /// The clocks from an input block to its output block.
     pub latency: u32,
     /// The multipliers.
@@ -35,7 +35,7 @@ pub fn write_report(out: &mut String, report: &Report) -> Result<(), AllocError>
     ensures muls { report.now.muls < 2 ^ 32 }
     ensures load { report.now.load < 2 ^ 32 }
 {
-    let slowdown = report.slowdown;
+    let slowdown = report.slowdown.clocks();
     let latency = report.latency;
     let muls = report.muls;
     let load = report.load;

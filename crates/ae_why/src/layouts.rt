@@ -5,13 +5,14 @@ use crate::types::push_line;
 use crate::watch::Watch;
 use ae_rewrite::{PlanFault, schedule};
 use ae_seq::Typed;
+use ae_sttype::Slowdown;
 use std::alloc::{AllocError, Global};
 
-// Whether all lines have a layout.
-fn has_layouts(alloc: Global, typed: &Typed, slowdown: u32) -> Result<bool, AllocError> {
-    if slowdown == 0 || slowdown > 4096 {
+// Whether all lines have a layout at the slowdown of so many clocks, where there is one.
+fn has_layouts(alloc: Global, typed: &Typed, clocks: u32) -> Result<bool, AllocError> {
+    let Some(slowdown) = Slowdown::of(clocks) else {
         return Ok(false);
-    }
+    };
     match schedule(alloc, typed, slowdown) {
         Ok(_) => Ok(true),
         Err(PlanFault::NoSchedule { line: _ }) => Ok(false),
@@ -23,12 +24,12 @@ fn has_layouts(alloc: Global, typed: &Typed, slowdown: u32) -> Result<bool, Allo
 fn below<W: Watch>(
     alloc: Global,
     typed: &Typed,
-    slowdown: u32,
+    clocks: u32,
     watch: &mut W,
 ) -> Result<Option<u32>, AllocError> {
-    for less in 1..slowdown {
+    for less in 1..clocks {
         watch.step("slowdown", less, 4096);
-        let other = slowdown.saturating_sub(less);
+        let other = clocks.saturating_sub(less);
         if has_layouts(alloc, typed, other)? {
             return Ok(Some(other));
         }
@@ -40,10 +41,10 @@ fn below<W: Watch>(
 fn over<W: Watch>(
     alloc: Global,
     typed: &Typed,
-    slowdown: u32,
+    clocks: u32,
     watch: &mut W,
 ) -> Result<Option<u32>, AllocError> {
-    for other in slowdown.saturating_add(1)..4097 {
+    for other in clocks.saturating_add(1)..4097 {
         watch.step("slowdown", other, 4096);
         if has_layouts(alloc, typed, other)? {
             return Ok(Some(other));
@@ -92,17 +93,18 @@ fn push_near<W: Watch>(
     out: &mut String,
     alloc: Global,
     typed: &Typed,
-    slowdown: u32,
+    slowdown: Slowdown,
     watch: &mut W,
 ) -> Result<(), AllocError> {
+    let clocks = slowdown.clocks();
     write!(
         out,
-        "not all of its elements fit in {slowdown} clocks evenly; slowdowns that have a layout:"
+        "not all of its elements fit in {clocks} clocks evenly; slowdowns that have a layout:"
     )?;
-    if let Some(other) = below(alloc, typed, slowdown, watch)? {
+    if let Some(other) = below(alloc, typed, clocks, watch)? {
         write!(out, " {other} below")?;
     }
-    if let Some(other) = over(alloc, typed, slowdown, watch)? {
+    if let Some(other) = over(alloc, typed, clocks, watch)? {
         write!(out, " {other} above")?;
     }
     out.push_str("\n")
@@ -114,7 +116,7 @@ pub fn no_layout<W: Watch>(
     alloc: Global,
     part: &[u8],
     number: u32,
-    slowdown: u32,
+    slowdown: Slowdown,
     watch: &mut W,
 ) -> Result<String, AllocError> {
     let mut out = String::new(alloc);

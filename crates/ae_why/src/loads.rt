@@ -1,12 +1,13 @@
 // Why a line is too large.
 
-ghost use Rattle.std.specs.Prelude.{◌<◌, ◌≤◌};
+ghost use Rattle.std.specs.Prelude.{◌≤◌};
 
 use crate::sorts::{Spot, program_of, spot_of, typed_above, typed_of};
 use crate::types::{push_line, push_types};
 use ae_delay::{DelayFault, Timing, arrivals_within};
 use ae_rewrite::{PlanFault, schedule};
 use ae_seq::{Func, Program, Typed};
+use ae_sttype::Slowdown;
 use std::alloc::{AllocError, Global};
 
 // What a program costs under a slowdown, or the sum of loads at which it passes the limit.
@@ -17,10 +18,13 @@ enum Loads {
     Unknown,
 }
 
-fn loads_of(alloc: Global, typed: &Typed, slowdown: u32, limit: u32) -> Result<Loads, AllocError>
-    requires some { 0 < slowdown }
-    requires most { slowdown ≤ 4096 }
-    requires limit { limit ≤ 100000 }
+fn loads_of(
+    alloc: Global,
+    typed: &Typed,
+    slowdown: Slowdown,
+    limit: u32,
+) -> Result<Loads, AllocError>
+    requires { limit ≤ 100000 }
 {
     let scheduled = match schedule(alloc, typed, slowdown) {
         Ok(scheduled) => scheduled,
@@ -99,12 +103,10 @@ fn push_above(
     part: &[u8],
     p: &Program,
     spot: Spot,
-    slowdown: u32,
+    slowdown: Slowdown,
     limit: u32,
 ) -> Result<(), AllocError>
-    requires some { 0 < slowdown }
-    requires most { slowdown ≤ 4096 }
-    requires limit { limit ≤ 100000 }
+    requires { limit ≤ 100000 }
 {
     let Some(typed) = typed_above(alloc, part, p, spot)? else {
         return Ok(());
@@ -124,17 +126,16 @@ fn push_load(
     out: &mut String,
     alloc: Global,
     typed: &Typed,
-    slowdown: u32,
+    slowdown: Slowdown,
     limit: u32,
 ) -> Result<(), AllocError>
-    requires some { 0 < slowdown }
-    requires most { slowdown ≤ 4096 }
-    requires limit { limit ≤ 100000 }
+    requires { limit ≤ 100000 }
 {
+    let clocks = slowdown.clocks();
     match loads_of(alloc, typed, slowdown, limit)? {
         Loads::Past(load) => writeln!(
             out,
-            "with this line the load at the slowdown {slowdown} is {load}; the limit is {limit}: a greater slowdown mostly needs less"
+            "with this line the load at the slowdown {clocks} is {load}; the limit is {limit}: a greater slowdown mostly needs less"
         ),
         _ => Ok(()),
     }
@@ -174,7 +175,7 @@ pub fn large_moves(
     alloc: Global,
     part: &[u8],
     number: u32,
-    slowdown: u32,
+    slowdown: Slowdown,
     load: u64,
     limit: u32,
 ) -> Result<String, AllocError> {
@@ -183,9 +184,10 @@ pub fn large_moves(
     out.push_str(
         "the program only moves words: each result is one move from the parameters, and their load counts at the end line\n",
     )?;
+    let clocks = slowdown.clocks();
     writeln!(
         out,
-        "at the slowdown {slowdown} it is {load}; the limit is {limit}: `aethkit slowdowns` tells which slowdowns need less"
+        "at the slowdown {clocks} it is {load}; the limit is {limit}: `aethkit slowdowns` tells which slowdowns need less"
     )?;
     Ok(out)
 }
@@ -197,12 +199,10 @@ fn push_cause(
     part: &[u8],
     p: &Program,
     number: u32,
-    slowdown: u32,
+    slowdown: Slowdown,
     limit: u32,
 ) -> Result<(), AllocError>
-    requires some { 0 < slowdown }
-    requires most { slowdown ≤ 4096 }
-    requires limit { limit ≤ 100000 }
+    requires { limit ≤ 100000 }
 {
     let Some(spot) = spot_of(p, number) else {
         return Ok(());
@@ -220,12 +220,10 @@ pub fn too_large(
     alloc: Global,
     part: &[u8],
     number: u32,
-    slowdown: u32,
+    slowdown: Slowdown,
     limit: u32,
 ) -> Result<String, AllocError>
-    requires some { 0 < slowdown }
-    requires most { slowdown ≤ 4096 }
-    requires limit { limit ≤ 100000 }
+    requires { limit ≤ 100000 }
 {
     let mut out = String::new(alloc);
     push_line(&mut out, alloc, part, number)?;

@@ -15,8 +15,6 @@ mod top;
 mod usage;
 mod why;
 
-ghost use Rattle.std.specs.Prelude.{◌<◌, ◌≤◌};
-
 use crate::circuits::{bench, drawn, notes, paths, stream};
 use crate::progress::Progress;
 use crate::request::{Picture, Request, request_of};
@@ -24,6 +22,7 @@ use crate::top::top;
 use ae_chart::table;
 use ae_io::{LoadFault, StdSink, StdSource, load, put_all};
 use ae_items::KitFault;
+use ae_sttype::Slowdown;
 use ae_why::Watch;
 use std::alloc::{AllocError, Global};
 use std::env::{self, Env};
@@ -40,14 +39,6 @@ fn words<R: Env + Alloc<A = Global>>(rt: &R) -> io::Result<Vec<String>> {
         words.push(word)?;
     }
     Ok(words)
-}
-
-// The nearest slowdown there is; each that is read is one.
-fn nearest(slowdown: u32) -> u32
-    ensures some { 0 < result }
-    ensures most { result ≤ 4096 }
-{
-    slowdown.max(1).min(4096)
 }
 
 // The words behind the request's own.
@@ -84,12 +75,9 @@ fn alone(alloc: Global, spelled: &str) -> Result<String, AllocError> {
 fn drawn_alone(
     alloc: Global,
     spelled: &str,
-    slowdown: u32,
+    slowdown: Slowdown,
     picture: Picture,
-) -> Result<String, KitFault>
-    requires some { 0 < slowdown }
-    requires most { slowdown ≤ 4096 }
-{
+) -> Result<String, KitFault> {
     let program = alone(alloc, spelled)?;
     if program.len() > INPUT_LIMIT {
         return Err(KitFault::TooLong);
@@ -122,24 +110,24 @@ fn answer<W: Watch>(
             is_alone,
         } => {
             if *is_alone {
-                drawn_alone(alloc, last(words), nearest(*slowdown), *picture)
+                drawn_alone(alloc, last(words), *slowdown, *picture)
             } else {
-                drawn(alloc, input, nearest(*slowdown), *picture)
+                drawn(alloc, input, *slowdown, *picture)
             }
         }
-        Request::Notes { slowdown, form } => notes(alloc, input, nearest(*slowdown), *form),
+        Request::Notes { slowdown, form } => notes(alloc, input, *slowdown, *form),
         Request::Top { slowdown, is_named } => {
-            top(alloc, input, nearest(*slowdown), name_in(words, *is_named))
+            top(alloc, input, *slowdown, name_in(words, *is_named))
         }
         Request::Stream { slowdown, is_named } => {
-            stream(alloc, input, nearest(*slowdown), name_in(words, *is_named))
+            stream(alloc, input, *slowdown, name_in(words, *is_named))
         }
-        Request::Paths { slowdown, most } => paths(alloc, input, nearest(*slowdown), *most),
+        Request::Paths { slowdown, most } => paths(alloc, input, *slowdown, *most),
         Request::Bench {
             slowdown,
             fill,
             dumps,
-        } => bench(alloc, input, nearest(*slowdown), *fill, *dumps, watch),
+        } => bench(alloc, input, *slowdown, *fill, *dumps, watch),
     }
 }
 

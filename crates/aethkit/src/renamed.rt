@@ -6,21 +6,22 @@ ghost use Rattle.aethkit.specs.Renamed.{build_words, IsBuild, IsRenamed, IsRenam
 
 use crate::why::is_ok;
 use ae_items::KitFault;
+use ae_sttype::Slowdown;
 use ae_tool::outcome;
 use std::alloc::{AllocError, Global};
 
 // The words of the job.
-fn words_of(alloc: Global, slowdown: u32) -> Result<Vec<String>, AllocError>
+fn words_of(alloc: Global, slowdown: Slowdown) -> Result<Vec<String>, AllocError>
     ensures { IfOk result (λ words. word_bytes words.items ≡ build_words slowdown) }
 {
     let mut words = Vec::new(alloc);
     words.push(String::from_str(alloc, "build")?)?;
-    words.push(format!(in alloc; "{slowdown}")?)?;
+    words.push(format!(in alloc; "{}", slowdown.clocks())?)?;
     Ok(words)
 }
 
 // The text of `aeth build S`.
-fn built(alloc: Global, input: &[u8], slowdown: u32) -> Result<String, KitFault>
+fn built(alloc: Global, input: &[u8], slowdown: Slowdown) -> Result<String, KitFault>
     ensures { IfOk result (λ text. IsBuild slowdown input.now (string_bytes text)) }
 {
     let words = words_of(alloc, slowdown)?;
@@ -51,7 +52,7 @@ fn renamed(alloc: Global, text: &str, name: &str) -> Result<Option<String>, Allo
 pub fn renamed_build(
     alloc: Global,
     input: &[u8],
-    slowdown: u32,
+    slowdown: Slowdown,
     name: &str,
 ) -> Result<String, KitFault>
     ensures { IfOk result (λ text. IsRenamedBuild slowdown input.now name.now (string_bytes text)) }

@@ -1,11 +1,10 @@
 // What the words ask for.
 
-ghost use Rattle.std.specs.Prelude.{◌<◌, ◌≤◌, IfSome, IfOk};
-
 use crate::keywords::is_keyword;
 use ae_chart::Range;
 use ae_notes::NoteForm;
 use ae_seq::is_name;
+use ae_sttype::Slowdown;
 use std::alloc::Global;
 
 #[derive(Clone, Copy)]
@@ -21,43 +20,40 @@ pub enum Request {
     Why,
     Slowdowns(Range),
     Draw {
-        slowdown: u32,
+        slowdown: Slowdown,
         picture: Picture,
         /// The layout of the type in the last word, in place of a program's.
         is_alone: bool,
     },
     Notes {
-        slowdown: u32,
+        slowdown: Slowdown,
         form: NoteForm,
     },
     Paths {
-        slowdown: u32,
+        slowdown: Slowdown,
         /// The most operators of which nobody has to be told.
         most: u32,
     },
     Top {
-        slowdown: u32,
+        slowdown: Slowdown,
         /// The last word is the name of the module.
         is_named: bool,
     },
     Stream {
-        slowdown: u32,
+        slowdown: Slowdown,
         /// The last word is the name of the module.
         is_named: bool,
     },
     Bench {
-        slowdown: u32,
+        slowdown: Slowdown,
         fill: u64,
         dumps: bool,
     },
 }
 
 // A slowdown.
-fn slowdown_of(word: &str) -> Option<u32> {
-    match word.parse::<u32>() {
-        Ok(slowdown) if 1 <= slowdown && slowdown <= 4096 => Some(slowdown),
-        _ => None,
-    }
+fn slowdown_of(word: &str) -> Option<Slowdown> {
+    Slowdown::of(word.parse::<u32>().ok()?)
 }
 
 // A word that chooses something, with or without the dashes that other programs want before it.
@@ -98,7 +94,8 @@ fn slowdowns(words: &[String]) -> Option<Request> {
     };
     if let [from, to, rest @ ..] = words {
         if let Some(from) = slowdown_of(from.as_str()) {
-            let to = slowdown_of(to.as_str())?;
+            let to = slowdown_of(to.as_str())?.clocks();
+            let from = from.clocks();
             return shown(Range { from, to, ..all }, rest);
         }
     }
@@ -118,7 +115,7 @@ fn taken<'a>(words: &'a [String], choice: &str) -> (bool, &'a [String]) {
     }
 }
 
-fn draw(slowdown: u32, words: &[String]) -> Option<Request> {
+fn draw(slowdown: Slowdown, words: &[String]) -> Option<Request> {
     let (is_text, rest) = taken(words, "text");
     let (is_alone, rest) = taken(rest, "layout");
     if rest.len() != usize::from(is_alone) {
@@ -132,7 +129,7 @@ fn draw(slowdown: u32, words: &[String]) -> Option<Request> {
     })
 }
 
-fn notes(slowdown: u32, words: &[String]) -> Option<Request> {
+fn notes(slowdown: Slowdown, words: &[String]) -> Option<Request> {
     let (has_nets, rest) = taken(words, "nets");
     let (is_file, rest) = taken(rest, "gtkw");
     if !rest.is_empty() {
@@ -144,7 +141,7 @@ fn notes(slowdown: u32, words: &[String]) -> Option<Request> {
     })
 }
 
-fn paths(slowdown: u32, words: &[String]) -> Option<Request> {
+fn paths(slowdown: Slowdown, words: &[String]) -> Option<Request> {
     let most = match words {
         [] => u32::MAX,
         [most] => most.as_str().parse::<u32>().ok()?,
@@ -167,7 +164,7 @@ fn named(words: &[String]) -> Option<bool> {
     }
 }
 
-fn bench(slowdown: u32, words: &[String]) -> Option<Request> {
+fn bench(slowdown: Slowdown, words: &[String]) -> Option<Request> {
     let [fill, rest @ ..] = words else {
         return None;
     };

@@ -9,6 +9,7 @@ ghost use Rattle.aethkit.specs.Explained.{is_ok, IsExplained};
 use ae_chart::load_of_moves;
 use ae_compile::{LOAD_LIMIT, OutOfMemory, STALL_LIMIT};
 use ae_items::program_part;
+use ae_sttype::Slowdown;
 use ae_tool::{
     Command, Reply, Status, VFaultKind, command_named, demo_size, outcome, refusal_line,
 };
@@ -19,7 +20,7 @@ use ae_why::{
 use std::alloc::{AllocError, Global};
 
 // The slowdown that a job asks for; 1 where it asks for none.
-fn asked(command: Command) -> u32 {
+fn asked(command: Command) -> Slowdown {
     match command {
         Command::Plan { slowdown }
         | Command::Cost { slowdown }
@@ -27,20 +28,17 @@ fn asked(command: Command) -> u32 {
         | Command::Build { slowdown }
         | Command::Stall { slowdown } => slowdown,
         Command::Run { slowdown, fill: _ } | Command::Wave { slowdown, fill: _ } => slowdown,
-        Command::Check | Command::Eval | Command::Unwave => 1,
-        Command::Sim { fill: _ } => 1,
-        Command::Demo { size: _ } => 1,
+        Command::Check | Command::Eval | Command::Unwave => Slowdown::one(),
+        Command::Sim { fill: _ } => Slowdown::one(),
+        Command::Demo { size: _ } => Slowdown::one(),
     }
 }
 
 // The same of words.
-fn slowdown_of(words: &[String]) -> u32
-    ensures some { 0 < result }
-    ensures most { result ≤ 4096 }
-{
+fn slowdown_of(words: &[String]) -> Slowdown {
     match command_named(words) {
-        Some(command) => asked(command).max(1).min(4096),
-        None => 1,
+        Some(command) => asked(command),
+        None => Slowdown::one(),
     }
 }
 
@@ -61,7 +59,7 @@ fn is_sim(words: &[String]) -> bool {
 /// Whether `aeth` reads its input for these words.
 pub fn reads_input(words: &[String]) -> bool {
     match command_named(words) {
-        Some(command) => demo_size(command).is_none(),
+        Some(command) => demo_size(&command).is_none(),
         None => false,
     }
 }
@@ -101,12 +99,10 @@ fn larger(
     alloc: Global,
     part: &[u8],
     line: u32,
-    slowdown: u32,
+    slowdown: Slowdown,
     limit: u32,
 ) -> Result<String, AllocError>
-    requires some { 0 < slowdown }
-    requires most { slowdown ≤ 4096 }
-    requires limit { limit ≤ 100000 }
+    requires { limit ≤ 100000 }
 {
     match load_of_moves(alloc, part, slowdown)? {
         Some(load) => large_moves(alloc, part, line, slowdown, load, limit),

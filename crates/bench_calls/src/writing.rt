@@ -1,6 +1,7 @@
 // The text of a module.
 
 use ae_netlist::Netlist;
+use ae_sttype::Slowdown;
 use ae_verilog::{Report, write_module};
 use std::alloc::{AllocError, Global};
 use table_text::Page;
@@ -14,7 +15,7 @@ fn length(alloc: Global, count: u32) -> Result<usize, AllocError> {
         }
     }
     let report = Report {
-        slowdown: 1,
+        slowdown: Slowdown::one(),
         latency: 0,
         muls: 0,
         load: count,

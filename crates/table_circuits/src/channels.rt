@@ -9,17 +9,17 @@ ghost use Rattle.ae_streamed.specs.Beats.{AreLayouts};
 
 use ae_netlist::{Cell, NetFault, NetId, Netlist, Port};
 use ae_streamed::stream;
-use ae_sttype::StType;
+use ae_sttype::{Slowdown, StType};
 use std::alloc::Global;
 
-fn takes_time(layout: &StType, slowdown: u32) -> bool
+fn takes_time(layout: &StType, slowdown: Slowdown) -> bool
     ensures { IsTrue result → IsInSize (st_tree layout.now) × (time (st_tree layout.now) ≡ slowdown) }
 {
-    layout.in_size() && layout.time() == slowdown
+    layout.in_size() && layout.time() == slowdown.clocks()
 }
 
 // Whether these are layouts, at least one, that take so many clocks.
-fn are_layouts(layouts: &[StType], slowdown: u32) -> bool
+fn are_layouts(layouts: &[StType], slowdown: Slowdown) -> bool
     ensures { IsTrue result → AreLayouts slowdown layouts.now }
 {
     if layouts.len() == 0 {
@@ -34,7 +34,7 @@ fn are_layouts(layouts: &[StType], slowdown: u32) -> bool
 }
 
 // How many words layouts have in a clock.
-fn count_columns(layouts: &[StType], slowdown: u32) -> Option<u32>
+fn count_columns(layouts: &[StType], slowdown: Slowdown) -> Option<u32>
     requires { AreLayouts slowdown layouts.now }
     ensures { IfSome result (λ n. n ≡ sum_by columns_of (map st_tree layouts.now)) }
 {
@@ -69,7 +69,7 @@ fn has_reset(nl: &Netlist) -> bool
 }
 
 // Whether the numbers of inputs and outputs are those of the columns.
-fn has_columns(nl: &Netlist, ins: &[StType], outs: &[StType], slowdown: u32) -> bool
+fn has_columns(nl: &Netlist, ins: &[StType], outs: &[StType], slowdown: Slowdown) -> bool
     requires ins { AreLayouts slowdown ins.now }
     requires outs { AreLayouts slowdown outs.now }
     ensures ins { IsTrue result → sum_by columns_of (map st_tree ins.now) < length nl.now.cells }
@@ -93,12 +93,10 @@ pub fn streamed(
     nl: Netlist,
     ins: &[StType],
     outs: &[StType],
-    slowdown: u32,
+    slowdown: Slowdown,
     latency: u32,
 ) -> Option<Result<Netlist, NetFault>>
-    requires some { 0 < slowdown }
-    requires limit { slowdown ≤ 4096 }
-    requires late { latency ≤ 1000000 }
+    requires { latency ≤ 1000000 }
 {
     if !has_reset(&nl) {
         return None;

@@ -15,7 +15,7 @@ ghost use Rattle.ae_play.specs.Lines.{clock_count};
 use crate::netlists::built;
 use ae_netlist::Netlist;
 use ae_play::{can_be_fed, sum_clocks, write_clocks};
-use ae_sttype::StType;
+use ae_sttype::{Slowdown, StType};
 use ae_word::Atom;
 use std::alloc::{AllocError, Global};
 use table_text::{Page, number_at, numbers, parted, word_at};
@@ -69,14 +69,12 @@ fn play(
     out: &mut Page,
     nl: &Netlist,
     layout: &[StType],
-    slowdown: u32,
+    slowdown: Slowdown,
     latency: u32,
     words: &[u64],
     blocks: usize,
     fill: u64,
 )
-    requires some { 1 ≤ slowdown }
-    requires most { slowdown ≤ 4096 }
     requires layout { All (λ s. IsInSize s × (time s ≡ slowdown)) (map st_tree layout.now) }
     requires few { clock_count slowdown latency blocks < 2 ^ 32 }
     requires whole { length words.now ≡ blocks * size_of (map st_tree layout.now) }
@@ -127,8 +125,13 @@ fn play_slots(
     let of = Box::new(alloc, StType::Atom(Atom::Word(8)))?;
     let layout = vec![in alloc; StType::T { n: 2, i: 1, of }]?;
     let layout = layout.as_slice();
+    let Some(slowdown) = Slowdown::of(3) else {
+        return Ok(());
+    };
     can_be_fed();
-    play(alloc, out, nl, layout, 3, latency, words, blocks, fill);
+    play(
+        alloc, out, nl, layout, slowdown, latency, words, blocks, fill,
+    );
     Ok(())
 }
 
@@ -153,8 +156,11 @@ fn play_lanes(
     let of = Box::new(alloc, StType::Atom(Atom::Word(8)))?;
     let layout = vec![in alloc; StType::S { n: 2, of }]?;
     let layout = layout.as_slice();
+    let slowdown = Slowdown::one();
     can_be_fed();
-    play(alloc, out, nl, layout, 1, latency, words, blocks, fill);
+    play(
+        alloc, out, nl, layout, slowdown, latency, words, blocks, fill,
+    );
     Ok(())
 }
 

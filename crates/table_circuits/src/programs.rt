@@ -16,6 +16,7 @@ use ae_parse::parse;
 use ae_retime::matching;
 use ae_rewrite::{StProgram, schedule};
 use ae_seq::{Typed, check};
+use ae_sttype::Slowdown;
 use std::alloc::Global;
 use table_text::{Page, number_at, parted, word_at};
 
@@ -52,12 +53,11 @@ fn lowered(alloc: Global, s: &StProgram) -> Option<(Lowered, u32)>
 }
 
 // The circuit of a program under a slowdown, and its latency.
-fn circuit(alloc: Global, typed: &Typed, slowdown: u32) -> Option<(Lowered, u32)>
-    requires typed { IsTyped (program_tree typed.now) }
-    requires some { 0 < slowdown }
-    requires limit { slowdown ≤ 4096 }
+fn circuit(alloc: Global, typed: &Typed, slowdown: Slowdown) -> Option<(Lowered, u32)>
+    requires { IsTyped (program_tree typed.now) }
 {
     schedules_fit();
+    slowdown.limits();
     let Ok(s) = schedule(alloc, typed, slowdown) else {
         return None;
     };
@@ -72,10 +72,15 @@ fn tell_latency(out: &mut Page, lowered: &Lowered, latency: u32) {
 }
 
 // The circuit of a program, its size where it is limited, and its run on rows of words.
-fn tell_circuit(alloc: Global, out: &mut Page, typed: &Typed, slowdown: u32, head: &str, rows: &str)
-    requires typed { IsTyped (program_tree typed.now) }
-    requires some { 0 < slowdown }
-    requires limit { slowdown ≤ 4096 }
+fn tell_circuit(
+    alloc: Global,
+    out: &mut Page,
+    typed: &Typed,
+    slowdown: Slowdown,
+    head: &str,
+    rows: &str,
+)
+    requires { IsTyped (program_tree typed.now) }
 {
     let Some((lowered, latency)) = circuit(alloc, typed, slowdown) else {
         return out.say("no circuit\n");
@@ -93,10 +98,8 @@ fn tell_circuit(alloc: Global, out: &mut Page, typed: &Typed, slowdown: u32, hea
 }
 
 // A program as one move for each result.
-fn fused(alloc: Global, typed: &Typed, slowdown: u32) -> Option<Fused>
-    requires some { 0 < slowdown }
-    requires limit { slowdown ≤ 4096 }
-{
+fn fused(alloc: Global, typed: &Typed, slowdown: Slowdown) -> Option<Fused> {
+    slowdown.limits();
     let Ok(s) = schedule(alloc, typed, slowdown) else {
         return None;
     };
@@ -138,10 +141,9 @@ fn tell_moved(alloc: Global, out: &mut Page, moves: &Fused, rows: &str) {
 fn tell_asked(alloc: Global, out: &mut Page, typed: &Typed, head: &str, rows: &str)
     requires { IsTyped (program_tree typed.now) }
 {
-    let slowdown = number_at(head, 1);
-    if slowdown == 0 || slowdown > 4096 {
+    let Some(slowdown) = Slowdown::of(number_at(head, 1)) else {
         return;
-    }
+    };
     if word_at(head, 0) == "program" {
         return tell_circuit(alloc, out, typed, slowdown, head, rows);
     }

@@ -4,6 +4,7 @@ use crate::channels::streamed;
 use crate::circuits::{built, layouts};
 use crate::transfers::tell_transfers;
 use ae_netlist::{NetFault, Netlist};
+use ae_sttype::Slowdown;
 use std::alloc::{AllocError, Global};
 use table_text::{Page, number_at, parted};
 
@@ -12,8 +13,10 @@ use table_text::{Page, number_at, parted};
 fn made(alloc: Global, head: &str) -> Result<Option<Result<Netlist, NetFault>>, AllocError> {
     let (n, i) = (number_at(head, 2), number_at(head, 3));
     let (params, latency) = (number_at(head, 4), number_at(head, 5));
-    let slowdown = n.saturating_add(i);
-    if slowdown == 0 || slowdown > 4096 || latency > 4096 {
+    let Some(slowdown) = Slowdown::of(n.saturating_add(i)) else {
+        return Ok(None);
+    };
+    if latency > 4096 {
         return Ok(None);
     }
     let Some(nl) = built(alloc, number_at(head, 1), params == 2, latency) else {

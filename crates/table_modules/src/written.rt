@@ -5,7 +5,7 @@ ghost use Rattle.std.specs.Prelude.{◌≡◌, IfOk, map, string_bytes};
 ghost use Rattle.ae_verilog.specs.Notes.{ArePrinted, note_tree};
 
 use ae_netlist::{Cell, Handshake, NetFault, Netlist, Port};
-use ae_sttype::StType;
+use ae_sttype::{Slowdown, StType};
 use ae_verilog::{Note, Report, write_module};
 use ae_word::Atom;
 use std::alloc::{AllocError, Global};
@@ -69,7 +69,7 @@ fn joined(alloc: Global) -> Result<Netlist, NetFault> {
 // A report of zeros.
 fn nothing(alloc: Global) -> Report {
     Report {
-        slowdown: 1,
+        slowdown: Slowdown::one(),
         latency: 0,
         muls: 0,
         load: 0,
@@ -82,7 +82,9 @@ fn nothing(alloc: Global) -> Report {
 fn two_parameters(alloc: Global) -> Result<Report, AllocError> {
     let bytes = side_by_side(alloc, 20, StType::Atom(Atom::Word(8)))?;
     let mut report = nothing(alloc);
-    report.slowdown = 4;
+    if let Some(four) = Slowdown::of(4) {
+        report.slowdown = four;
+    }
     report.latency = 100;
     report.muls = 3;
     report.load = 62;

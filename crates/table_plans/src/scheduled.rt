@@ -5,6 +5,7 @@ use crate::timed::{tell_each, tell_timing};
 use ae_fuse::{Fused, fuse};
 use ae_rewrite::{StFunc, StNode, StProgram, schedule};
 use ae_seq::Typed;
+use ae_sttype::Slowdown;
 use std::alloc::{AllocError, Global};
 use table_text::Page;
 
@@ -53,20 +54,21 @@ fn tell_moves(out: &mut Page, moves: &Fused) {
     out.say("\n");
 }
 
-/// Under a slowdown the timing of the schedule, the moves of a program that only moves, or else the instances.
+/// Under the slowdown of so many clocks the timing of the schedule, the moves of a program that only moves, or else the instances.
 pub fn tell_at(
     alloc: Global,
     out: &mut Page,
     p: &Typed,
     asked: &str,
-    slowdown: u32,
+    clocks: u32,
 ) -> Result<(), AllocError> {
-    out.tell("slowdown ", &slowdown);
-    if slowdown == 0 || slowdown > 4096 {
+    out.tell("slowdown ", &clocks);
+    let Some(slowdown) = Slowdown::of(clocks) else {
         out.say(": not asked so\n");
         return Ok(());
-    }
+    };
     out.say(": ");
+    slowdown.limits();
     match schedule(alloc, p, slowdown) {
         Ok(s) => match asked {
             "timings" => tell_timing(alloc, out, &s)?,

@@ -6,6 +6,7 @@ use ae_delay::{Timing, arrivals, arrivals_within};
 use ae_retime::{Slacks, matching};
 use ae_rewrite::{StProgram, schedule};
 use ae_seq::Typed;
+use ae_sttype::Slowdown;
 use std::alloc::{AllocError, Global};
 use table_text::Page;
 
@@ -150,7 +151,7 @@ pub fn tell_limit(alloc: Global, out: &mut Page, p: &Typed, limit: u32) {
         return out.say(": not asked so\n");
     }
     out.say(": ");
-    match schedule(alloc, p, 1) {
+    match schedule(alloc, p, Slowdown::one()) {
         Ok(s) => tell_within(alloc, out, &s, limit),
         Err(fault) => out.tell_line("", &fault),
     }

@@ -7,7 +7,7 @@ use Rattle.ae_compile.proofs.Mains.{parts_of}
 use Rattle.ae_compile.proofs.costing.cost.Goals as goal
 
 pub find_costs-requires-clause-schedule : goal.find_costs-requires-clause-schedule
-find_costs-requires-clause-schedule c = (c.args.slowdown, c.requires.some, c.requires.most, c.in_ok-program.ensures.scheduled.schedule)
+find_costs-requires-clause-schedule c = (c.args.slowdown, c.limits.ensures.0, c.limits.ensures.1, c.in_ok-program.ensures.scheduled.schedule)
 
 pub returns-clause-known : goal.returns-clause-known
 returns-clause-known c =
@@ -15,8 +15,8 @@ returns-clause-known c =
     let all = st_func_trees c.in_ok-program.schedule in
     let own = c.in_ok-program.ensures in
     record {
-      some = c.requires.some;
-      most = c.requires.most;
+      some = c.limits.ensures.0;
+      most = c.limits.ensures.1;
       typed = record { is_formed = own.formed; accepted = own.scheduled.typed.typed };
       schedule = own.scheduled.schedule;
       sound = own.sound;
@@ -33,8 +33,8 @@ invariant_of-result c =
     (parts_of p c.args.slowdown all own.scheduled.schedule) c.in_ok-costs.ensures.within in
     let most : c.args.limit ≤ 100000 = c.requires.limit in
     record {
-      some = c.requires.some;
-      most = c.requires.most;
+      some = c.limits.ensures.0;
+      most = c.limits.ensures.1;
       typed = record { is_formed = own.formed; accepted = own.scheduled.typed.typed };
       schedule = own.scheduled.schedule;
       sound = own.sound;

@@ -14,12 +14,12 @@ cost-requires-clause-part c = omega (arith, short_program c.args.size c.requires
 pub demo_text-requires-clause-costed : goal.demo_text-requires-clause-costed
 demo_text-requires-clause-costed c =
     subst (λ (part : List ℕ). IsCosted load_limit part (demo_slowdown c.args.size) (program_tree c.in-Ok.costed.program)
-    (st_func_trees c.in-Ok.costed.schedule)) (c.as_bytes.ensures.value ∙ c.in_ok-part.ensures) c.in-Ok.ensures.costed
+    (st_func_trees c.in-Ok.costed.schedule)) (c.as_bytes.ensures.value ∙ c.in_ok-part.ensures) (rw c.slowdown_of.ensures at c.in-Ok.ensures.costed)
 
 pub memory_alone-requires : goal.memory_alone-requires
 memory_alone-requires c =
     let n = c.args.size in
     let fits = c.demos_are_accepted.ensures n c.requires.some c.requires.limit in
     let refused = subst (λ (part : List ℕ). IsCostFault load_limit part (demo_slowdown n) c.in-Err.fault)
-    (c.as_bytes.ensures.value ∙ c.in_ok-part.ensures) c.in-Err.ensures.refused in
+    (c.as_bytes.ensures.value ∙ c.in_ok-part.ensures) (rw c.slowdown_of.ensures at c.in-Err.ensures.refused) in
     only_memory load_limit (demo_program n) (demo_slowdown n) c.in-Err.fault (demo_has_costs n fits) refused

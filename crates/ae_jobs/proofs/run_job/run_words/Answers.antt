@@ -22,8 +22,8 @@ nonzero_div-blocks c =
     let p = program_tree c.args.costed.program in
     column_some p c.args.columns c.requires.rows.0 c.args.words.now c.costs-costs.ensures.known.typed c.requires.rows.1
 
-pub clock_count-clocks-requires-clause-few : goal.clock_count-clocks-requires-clause-few
-clock_count-clocks-requires-clause-few c =
+pub clock_count-clocks-requires : goal.clock_count-clocks-requires
+clock_count-clocks-requires c =
     let p = program_tree c.args.costed.program in
     omega (arith, rows_count p c.args.columns c.requires.rows.0 c.args.words.now c.costs-costs.ensures.known.typed c.requires.rows.1, c.requires.rows.1.few)
 

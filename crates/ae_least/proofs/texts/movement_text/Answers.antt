@@ -13,6 +13,6 @@ returns-clause-text c =
     let many : outs ≡ length main.results = first_of (search rules, grind arith) in
     least-text c.latency_is_least.ensures (program_tree c.args.p.now) c.args.slowdown (st_func_trees c.in_ok-schedule.schedule) c.in_ok-fused.fused main outs
     (string_bytes c.in_ok-text.text)
-    c.main_func.ensures.typed c.requires.some c.in_ok-schedule.ensures.schedule c.in_ok-schedule.ensures.sound c.in_ok-fused.ensures c.main_func.ensures.func
+    c.main_func.ensures.typed c.limits.ensures.0 c.in_ok-schedule.ensures.schedule c.in_ok-schedule.ensures.sound c.in_ok-fused.ensures c.main_func.ensures.func
     many
     (c.in_ok-text.ensures ∙ (λ i. latency_line (c.latency.ensures i) ++ shown_lines outs (c.certificate.ensures i)))

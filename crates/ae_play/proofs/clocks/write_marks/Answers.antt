@@ -7,10 +7,10 @@ use Rattle.ae_play.proofs.Layouts.{next_tree, tree_holds, tree_there}
 use Rattle.ae_play.proofs.WordLines.{marks_more}
 use Rattle.ae_play.proofs.clocks.write_marks.Goals as goal
 
-pub mark-requires-clause-sized : goal.mark-requires-clause-sized
-mark-requires-clause-sized c =
+pub mark-requires : goal.mark-requires
+mark-requires c =
     (tree_holds (λ s. IsInSize s × (time s ≡ c.args.slowdown)) c.args.outs.now c.loop-s.s-index c.s-item.result
-    (tree_there c.args.outs.now c.loop-s.s-index c.s-item.result c.loop-s-test.true c.s-item.is) c.requires.sized).0
+    (tree_there c.args.outs.now c.loop-s.s-index c.s-item.result c.loop-s-test.true c.s-item.is) c.requires).0
 
 pub loop-s-preserved : goal.loop-s-preserved
 loop-s-preserved c =

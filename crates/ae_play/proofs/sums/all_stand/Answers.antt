@@ -6,10 +6,10 @@ use Rattle.ae_play.proofs.Layouts.{next_tree, tree_holds, tree_there}
 use Rattle.ae_play.proofs.Summing.{one_more, one_not}
 use Rattle.ae_play.proofs.sums.all_stand.Goals as goal
 
-pub stands-requires-clause-sized : goal.stands-requires-clause-sized
-stands-requires-clause-sized c =
+pub stands-requires : goal.stands-requires
+stands-requires c =
     (tree_holds (λ s. IsInSize s × (time s ≡ c.args.slowdown)) c.args.outs.now c.loop-s.s-index c.s-item.result
-    (tree_there c.args.outs.now c.loop-s.s-index c.s-item.result c.loop-s-test.true c.s-item.is) c.requires.sized).0
+    (tree_there c.args.outs.now c.loop-s.s-index c.s-item.result c.loop-s-test.true c.s-item.is) c.requires).0
 
 pub returns-then-not-stands : goal.returns-then-not-stands
 returns-then-not-stands c =

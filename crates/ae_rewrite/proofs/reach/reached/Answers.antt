@@ -8,7 +8,7 @@ use Rattle.ae_rewrite.proofs.reach.reached.Goals as goal
 
 pub loop-func-init : goal.loop-func-init
 loop-func-init c = record {
-  reaches = reaches-start (program_tree c.args.p.now) c.args.slowdown c.main_of-main.result (number_lists c.in_ok-needs.needs.items) _
+  reaches = reaches-start (program_tree c.args.p.now) c.args.clocks c.main_of-main.result (number_lists c.in_ok-needs.needs.items) _
       (rw c.program.ensures.program at c.main_of-main.ensures.main)
       (rw length-map c.in_ok-needs.ensures.count) c.in_ok-needs.ensures.empty c.in_ok-visit.ensures.added c.in_ok-visit.ensures.closed;
   low = omega arith;
@@ -16,15 +16,15 @@ loop-func-init c = record {
 
 pub visit_all-requires-clause-positive : goal.visit_all-requires-clause-positive
 visit_all-requires-clause-positive c = λ u a.
-    (reached-within (program_tree c.args.p.now) c.args.slowdown _ u c.requires.time (c.loop-func.invariant.reaches.reached _ u a)).0
+    (reached-within (program_tree c.args.p.now) c.args.clocks _ u c.requires.time (c.loop-func.invariant.reaches.reached _ u a)).0
 
 pub loop-func-preserved : goal.loop-func-preserved
 loop-func-preserved c =
     let e : c.loop-func.func ≡ c.loop-func.func - 1 + 1 = omega arith in
-    let old : Reaches (program_tree c.args.p.now) c.args.slowdown (c.loop-func.func - 1 + 1)
+    let old : Reaches (program_tree c.args.p.now) c.args.clocks (c.loop-func.func - 1 + 1)
     (number_lists c.loop-func.needs.items) = rw (← e) c.loop-func.invariant.reaches in
     record {
-      reaches = reaches-more (program_tree c.args.p.now) c.args.slowdown (c.loop-func.func - 1)
+      reaches = reaches-more (program_tree c.args.p.now) c.args.clocks (c.loop-func.func - 1)
           (number_lists c.loop-func.needs.items) _ old c.in_ok-visit_all.ensures.added c.in_ok-visit_all.ensures.closed;
       low = omega (arith, c.loop-func.invariant.low);
     }

@@ -18,14 +18,14 @@ overflow_cast-f c =
 pub plan_budgets-requires-clause-within : goal.plan_budgets-requires-clause-within
 plan_budgets-requires-clause-within c =
     let at = number-list c.args.needs.now c.loop-f.f c.index-needs-f.result c.loop-f-test.true c.index-needs-f.is in
-    rw c.deref-in-loop-f.ensures.value (within-of (program_tree c.args.p.now) c.args.slowdown c.loop-f.f
+    rw c.deref-in-loop-f.ensures.value (within-of (program_tree c.args.p.now) c.args.clocks c.loop-f.f
     (number_lists c.args.needs.now) _ c.requires.time c.requires.limit c.requires.reaches at)
 
 pub plan_budgets-requires-clause-known : goal.plan_budgets-requires-clause-known
 plan_budgets-requires-clause-known c =
     let at = number-list c.args.needs.now c.loop-f.f c.index-needs-f.result c.loop-f-test.true c.index-needs-f.is in
     rw (c.deref-in-loop-f.ensures.value, c.deref.ensures.value)
-    (λ i u is. known-of (program_tree c.args.p.now) c.args.slowdown c.loop-f.f u (number_lists c.args.needs.now)
+    (λ i u is. known-of (program_tree c.args.p.now) c.args.clocks c.loop-f.f u (number_lists c.args.needs.now)
     (row_lists c.loop-f.rows.items) c.requires.formed c.requires.reaches c.loop-f.invariant.all.are
     (record { own = c.index-needs-f.result.items; here = at; at = i; is = is }))
 
@@ -38,7 +38,7 @@ pub plan_budgets-requires-clause-few : goal.plan_budgets-requires-clause-few
 plan_budgets-requires-clause-few c =
     let at = number-list c.args.needs.now c.loop-f.f c.index-needs-f.result c.loop-f-test.true c.index-needs-f.is in
     let own = few-budgets c.index-needs-f.result.items (c.requires.reaches.once c.loop-f.f _ at)
-    (within-of (program_tree c.args.p.now) c.args.slowdown c.loop-f.f
+    (within-of (program_tree c.args.p.now) c.args.clocks c.loop-f.f
     (number_lists c.args.needs.now) _ c.requires.time c.requires.limit c.requires.reaches at) in
     let funcs = few-funcs (program_tree c.args.p.now) c.requires.formed in
     let count = rw length-map at c.requires.reaches.count in
@@ -48,7 +48,7 @@ pub loop-f-preserved : goal.loop-f-preserved
 loop-f-preserved c =
     let at = number-list c.args.needs.now c.loop-f.f c.index-needs-f.result c.loop-f-test.true c.index-needs-f.is in
     let own = few-budgets c.index-needs-f.result.items (c.requires.reaches.once c.loop-f.f _ at)
-    (within-of (program_tree c.args.p.now) c.args.slowdown c.loop-f.f
+    (within-of (program_tree c.args.p.now) c.args.clocks c.loop-f.f
     (number_lists c.args.needs.now) _ c.requires.time c.requires.limit c.requires.reaches at) in
     record {
       all =

@@ -10,13 +10,14 @@ use Rattle.ae_rewrite.proofs.schedules.schedule.Goals as goal
 pub plan_func-requires-clause-known : goal.plan_func-requires-clause-known
 plan_func-requires-clause-known c =
     rw (c.deref-2.ensures.value, c.main_of-main.ensures.main, c.program.ensures.program)
-    (main-known (program_tree c.args.p.now) c.args.slowdown (number_lists c.in_ok-needs.needs.items) (row_lists c.in_ok-rows.rows.items) c.in_ok-needs.ensures
+    (main-known (program_tree c.args.p.now) c.clocks-clocks.result (number_lists c.in_ok-needs.needs.items)
+    (row_lists c.in_ok-rows.rows.items) c.in_ok-needs.ensures
     (rw c.deref.ensures.value at c.in_ok-rows.ensures.budgets))
 
 pub returns-clause-schedule : goal.returns-clause-schedule
 returns-clause-schedule c =
-    rw c.new.ensures
-    (schedule-of (program_tree c.args.p.now) c.args.slowdown (number_lists c.in_ok-needs.needs.items) (row_lists c.in_ok-rows.rows.items) _ _
+    rw (c.new.ensures, ← c.clocks-clocks.ensures.is)
+    (schedule-of (program_tree c.args.p.now) c.clocks-clocks.result (number_lists c.in_ok-needs.needs.items) (row_lists c.in_ok-rows.rows.items) _ _
     (st_func_tree c.in_ok-whole.whole) c.in_ok-needs.ensures
     (rw c.deref.ensures.value at c.in_ok-rows.ensures.budgets) c.in_ok-rows.ensures.plans
     (rw c.deref-2.ensures.value at c.in_ok-whole.ensures.instance)
@@ -29,8 +30,9 @@ returns-clause-layouts c =
 
 pub new-requires-clause-sound : goal.new-requires-clause-sound
 new-requires-clause-sound c =
-    schedule_sound (program_tree c.args.p.now) c.args.slowdown _ c.program.ensures.is_formed c.program.ensures.accepted c.requires.some c.requires.limit
-    (schedule-of (program_tree c.args.p.now) c.args.slowdown (number_lists c.in_ok-needs.needs.items) (row_lists c.in_ok-rows.rows.items) _ _
+    schedule_sound (program_tree c.args.p.now) c.clocks-clocks.result _ c.program.ensures.is_formed c.program.ensures.accepted c.clocks-clocks.ensures.some
+    c.clocks-clocks.ensures.most
+    (schedule-of (program_tree c.args.p.now) c.clocks-clocks.result (number_lists c.in_ok-needs.needs.items) (row_lists c.in_ok-rows.rows.items) _ _
     (st_func_tree c.in_ok-whole.whole) c.in_ok-needs.ensures
     (rw c.deref.ensures.value at c.in_ok-rows.ensures.budgets) c.in_ok-rows.ensures.plans
     (rw c.deref-2.ensures.value at c.in_ok-whole.ensures.instance)
@@ -40,9 +42,9 @@ new-requires-clause-sound c =
 pub returns-clause-sound : goal.returns-clause-sound
 returns-clause-sound c =
     rw c.new.ensures
-    (schedule_sound (program_tree c.args.p.now) c.args.slowdown _ c.program.ensures.is_formed c.program.ensures.accepted c.requires.some
-    c.requires.limit
-    (schedule-of (program_tree c.args.p.now) c.args.slowdown (number_lists c.in_ok-needs.needs.items) (row_lists c.in_ok-rows.rows.items) _ _
+    (schedule_sound (program_tree c.args.p.now) c.clocks-clocks.result _ c.program.ensures.is_formed c.program.ensures.accepted c.clocks-clocks.ensures.some
+    c.clocks-clocks.ensures.most
+    (schedule-of (program_tree c.args.p.now) c.clocks-clocks.result (number_lists c.in_ok-needs.needs.items) (row_lists c.in_ok-rows.rows.items) _ _
     (st_func_tree c.in_ok-whole.whole) c.in_ok-needs.ensures
     (rw c.deref.ensures.value at c.in_ok-rows.ensures.budgets) c.in_ok-rows.ensures.plans
     (rw c.deref-2.ensures.value at c.in_ok-whole.ensures.instance)

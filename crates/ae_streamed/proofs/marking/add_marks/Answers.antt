@@ -17,13 +17,15 @@ returns-clause-adds c =
 
 pub returns-clause-marks : goal.returns-clause-marks
 returns-clause-marks c =
-    let low : c.args.latency % c.args.slowdown < c.args.slowdown = mod_below c.args.latency c.args.slowdown c.requires.some in
-    has_marks c.args.nl.now c.period_bit.new.nl c.period_bit-2.new.nl c.beat.new.nl c.beat-2.new.nl c.period_bit-3.new.nl
+    let period = c.clocks-period.result in
+    let low : c.args.latency % period < period = mod_below c.args.latency period c.clocks-period.ensures.some in
+    rw (← c.clocks-period.ensures.is)
+    (has_marks c.args.nl.now c.period_bit.new.nl c.period_bit-2.new.nl c.beat.new.nl c.beat-2.new.nl c.period_bit-3.new.nl
     c.new-clocks.result c.period_bit.new.clocks c.period_bit-2.new.clocks c.beat.new.clocks c.beat-2.new.clocks c.period_bit-3.new.clocks
     (record { first = c.in_ok-first.first; last = c.in_ok-last.last; wants = c.in_ok-wants.wants; late = c.in_ok-late.late; behind = c.in_ok-behind.behind })
-    c.args.slowdown (c.args.latency % c.args.slowdown) (map st_tree c.args.inputs.now) (map st_tree c.args.outputs.now) c.requires.some low
+    period (c.args.latency % period) (map st_tree c.args.inputs.now) (map st_tree c.args.outputs.now) c.clocks-period.ensures.some low
     (ap (λ (k : Kept). k.rst) c.new-clocks.ensures) c.in_ok-first.ensures.gains c.in_ok-last.ensures.gains c.in_ok-wants.ensures.gains
-    c.in_ok-late.ensures.gains c.in_ok-behind.ensures.gains
+    c.in_ok-late.ensures.gains c.in_ok-behind.ensures.gains)
 
 pub returns-in_err-first-clause-adds : goal.returns-in_err-first-clause-adds
 returns-in_err-first-clause-adds c = marks1 (map st_tree c.args.inputs.now) (map st_tree c.args.outputs.now) c.in_err-first.ensures.adds

@@ -40,30 +40,35 @@ wrap-requires-clause-marks c =
     record { first = m.first.net; last = m.last.net; wants = m.wants.net; late = m.late.net; behind = m.behind.net }
 
 pub wrap-requires-clause-few : goal.wrap-requires-clause-few
-wrap-requires-clause-few c = omega (arith, blocks_few c.args.latency c.args.slowdown c.requires.some, c.requires.late)
+wrap-requires-clause-few c = omega (arith, blocks_few c.args.latency c.clocks-period.result c.clocks-period.ensures.some, c.requires.late)
 
 pub wrap-requires-clause-waits : goal.wrap-requires-clause-waits
 wrap-requires-clause-waits c =
     omega (
       arith,
-      wait_few c.args.latency c.args.slowdown c.last_beat.result c.requires.some c.last_beat.ensures.below,
-      blocks_few c.args.latency c.args.slowdown c.requires.some,
+      wait_few c.args.latency c.clocks-period.result c.last_beat.result c.clocks-period.ensures.some
+          (rw (← c.clocks-period.ensures.is) at c.last_beat.ensures.below),
+      blocks_few c.args.latency c.clocks-period.result c.clocks-period.ensures.some,
     )
 
 pub returns-clause-stream : goal.returns-clause-stream
 returns-clause-stream c =
     let roomy : Circuit = record c.args.nl.now { limit = 1000000 } in
-    same_stream c.args.nl.now c.in_ok-new.new c.args.slowdown c.args.latency 1000000 (map st_tree c.args.inputs.now) (map st_tree c.args.outputs.now)
-    (is_stream roomy c.add_marks.new.nl c.in_ok-new.new c.in_ok-m.m c.args.slowdown c.args.latency ((c.args.latency + c.last_beat.result) / c.args.slowdown)
+    rw (← c.clocks-period.ensures.is)
+    (same_stream c.args.nl.now c.in_ok-new.new c.clocks-period.result c.args.latency 1000000 (map st_tree c.args.inputs.now) (map st_tree c.args.outputs.now)
+    (is_stream roomy c.add_marks.new.nl c.in_ok-new.new c.in_ok-m.m c.clocks-period.result c.args.latency
+    ((c.args.latency + c.last_beat.result) / c.clocks-period.result)
     (map st_tree c.args.inputs.now) (map st_tree c.args.outputs.now)
-    c.requires.some c.formed.ensures.cells c.formed.ensures.outlets c.has_one_run.ensures
-    (rw c.in_ok-marked.ensures.same at c.in_ok-m.ensures.adds) c.formed-2.ensures.cells c.in_ok-m.ensures.marks c.in_ok-new.ensures.wrapped
-    (λ k y. wait_long c.args.latency c.args.slowdown c.last_beat.result k c.requires.some (c.last_beat.ensures.last.greatest k y))
-    (within c.args.inputs.now c.args.slowdown c.requires.inputs) (within c.args.outputs.now c.args.slowdown c.requires.outputs) c.requires.ins c.requires.outs
-    (some_columns c.args.outputs.now c.args.slowdown c.requires.outputs)
+    c.clocks-period.ensures.some c.formed.ensures.cells c.formed.ensures.outlets c.has_one_run.ensures
+    (rw c.in_ok-marked.ensures.same at c.in_ok-m.ensures.adds) c.formed-2.ensures.cells
+    (rw (← c.clocks-period.ensures.is) at c.in_ok-m.ensures.marks) c.in_ok-new.ensures.wrapped
+    (λ k y. wait_long c.args.latency c.clocks-period.result c.last_beat.result k c.clocks-period.ensures.some (c.last_beat.ensures.last.greatest k y))
+    (within c.args.inputs.now c.clocks-period.result (rw (← c.clocks-period.ensures.is) at c.requires.inputs))
+    (within c.args.outputs.now c.clocks-period.result (rw (← c.clocks-period.ensures.is) at c.requires.outputs)) c.requires.ins c.requires.outs
+    (some_columns c.args.outputs.now c.clocks-period.result (rw (← c.clocks-period.ensures.is) at c.requires.outputs))
     c.held_circuits_are_inside.ensures c.held_marks_are_seen.ensures c.wired_controls_are_driven.ensures c.driven_circuits_stream.ensures
     c.driven_circuits_keep_words.ensures c.driven_circuits_go_on.ensures
-    c.wired_controls_have_no_paths.ensures)
+    c.wired_controls_have_no_paths.ensures))
 
 pub returns-in_err-marked-clause-full : goal.returns-in_err-marked-clause-full
 returns-in_err-marked-clause-full c =
@@ -81,9 +86,10 @@ returns-in_err-m-clause-full c =
 
 pub returns-in_err-new-clause-full : goal.returns-in_err-new-clause-full
 returns-in_err-new-clause-full c =
+    let full = rw c.clocks-period.ensures.is at c.in_err-new.ensures.full in
     let p = err_from_is_err_and c.from_residual-in_err-new.result c.from_residual-in_err-new.ensures.1 in
     rw (p.1, p.2) (λ e.
     let adds = c.in_ok-m.ensures.adds in
     let long : length c.in_ok-marked.marked.cells ≡ length c.args.nl.now.cells = ap (λ (v : Circuit). length v.cells) c.in_ok-marked.ensures.same in
     let shown : length c.in_ok-marked.marked.outlets ≡ length c.args.nl.now.outlets = ap (λ (v : Circuit). length v.outlets) c.in_ok-marked.ensures.same in
-    inr (omega (arith, c.in_err-new.ensures.full e, adds.cells, ap length adds.grows.outlets, long, shown)))
+    inr (omega (arith, full e, adds.cells, ap length adds.grows.outlets, long, shown)))

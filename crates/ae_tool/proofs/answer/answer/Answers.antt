@@ -7,6 +7,7 @@ use Rattle.ae_tool.proofs.answer.answer.Goals as goal
 
 pub returns : goal.returns
 returns c =
-    IfOk-weaker c.answer_parts.result (λ (r : Reply). IsReply c.args.command c.parts.result.0.now (rows c.parts.result.1.now) r.status (string_bytes r.text))
-    (λ (r : Reply). IsDone c.args.command c.args.bytes.now r.status (string_bytes r.text))
+    IfOk-weaker c.answer_parts.result (λ (r : Reply). IsReply c.args.command.now c.parts.result.0.now (rows c.parts.result.1.now) r.status
+    (string_bytes r.text))
+    (λ (r : Reply). IsDone c.args.command.now c.args.bytes.now r.status (string_bytes r.text))
     (λ r w. record { part = c.parts.result.0.now; table = rows c.parts.result.1.now; cut = c.parts.ensures.parts; reply = w }) c.answer_parts.ensures

@@ -22,7 +22,10 @@ pub play-requires-clause-rows : goal.play-requires-clause-rows
 play-requires-clause-rows c =
     let shape : map st_tree c.as_slice-layout.result.now ≡ layouts =
     ap (map st_tree) (c.as_slice-layout.ensures.value ∙ c.in_ok-layout.ensures.items) ∙ ap (λ (t : StType). sseq 2 (st_tree t) ∷ []) c.in_ok-of.ensures.ok in
-    subst (λ (ss : List StTree). (n : ℕ) → All (AreInputs c.args.nl.now.cells) (fed_rows 1 c.args.fill ss (blocks_of ss c.in-Some.blocks c.args.words.now) n))
+    subst (λ (s : ℕ). (n : ℕ) → All (AreInputs c.args.nl.now.cells)
+    (fed_rows s c.args.fill (map st_tree c.as_slice-layout.result.now)
+    (blocks_of (map st_tree c.as_slice-layout.result.now) c.in-Some.blocks c.args.words.now) n)) (sym c.one-slowdown.ensures)
+    (subst (λ (ss : List StTree). (n : ℕ) → All (AreInputs c.args.nl.now.cells) (fed_rows 1 c.args.fill ss (blocks_of ss c.in-Some.blocks c.args.words.now) n))
     (sym shape)
     (c.can_be_fed.ensures c.args.nl.now.cells 1 c.args.fill layouts c.in-Some.blocks c.args.words.now
-    (c.has_widths.ensures (search rules)) c.in-Some.ensures.fit)
+    (c.has_widths.ensures (search rules)) c.in-Some.ensures.fit))

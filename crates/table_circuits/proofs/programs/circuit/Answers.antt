@@ -5,5 +5,5 @@ use Rattle.table_circuits.proofs.programs.circuit.Goals as goal
 
 pub lowered-requires : goal.lowered-requires
 lowered-requires c =
-    c.schedules_fit.ensures (program_tree c.args.typed.now) c.args.slowdown (st_func_trees c.in-Ok.s) c.requires.typed c.requires.some
+    c.schedules_fit.ensures (program_tree c.args.typed.now) c.args.slowdown (st_func_trees c.in-Ok.s) c.requires c.limits.ensures.0
     c.in-Ok.ensures.schedule

@@ -16,9 +16,3 @@ returns-clause-takes c =
     c.in_ok-write_marks.ensures
     c.in_ok-write_words.ensures
     c.in_ok-push_str-3.ensures.bytes
-
-pub write_marks-requires-clause-sized : goal.write_marks-requires-clause-sized
-write_marks-requires-clause-sized c = c.requires.within.1
-
-pub write_marks-requires-clause-some : goal.write_marks-requires-clause-some
-write_marks-requires-clause-some c = c.requires.within.0
