@@ -13,6 +13,7 @@ ghost use Rattle.ae_clocked.specs.Phases.{Belongs, HoldsPhases, IsCounter, IsMar
 use crate::counter::counter;
 use crate::marks::marked;
 use ae_netlist::{NetFault, NetId, Netlist};
+use ae_word::Width;
 use indexmap::IndexMap;
 use std::alloc::Global;
 use std::marker::Model;
@@ -291,16 +292,16 @@ impl Clocks {
 }
 
 /// The bits that hold all numbers below the period.
-fn width_for(period: u32) -> u32
+fn width_for(period: u32) -> Width
     requires low { 1 ≤ period }
     requires high { period ≤ 4096 }
     ensures holds { HoldsPhases result period }
     ensures small { result ≤ 12 }
 {
-    for width in 1..12u32 {
-        if period <= 1u32 << width {
-            return width;
+    for bits in 1..12u32 {
+        if period <= 1u32 << bits {
+            return Width { bits };
         }
     }
-    12
+    Width { bits: 12 }
 }

@@ -10,11 +10,10 @@ use crate::gates::{
     choose, close, constant, differ, doubled, either, equal, lowest, register, sum,
 };
 use ae_netlist::{NetFault, NetId, Netlist};
+use ae_word::Width;
 
 /// The word after that of a counter, with an adder.
-fn turned_by_sum(nl: &mut Netlist, r: NetId, width: u32, last: u64) -> Result<NetId, NetFault>
-    requires low { 1 ≤ width }
-    requires high { width ≤ 64 }
+fn turned_by_sum(nl: &mut Netlist, r: NetId, width: Width, last: u64) -> Result<NetId, NetFault>
     requires net { IsNet nl.old.cells r.0 width }
     requires fits { last < 2 ^ width }
     ensures adds { Adds nl.old nl.new 6 0 }
@@ -24,6 +23,7 @@ fn turned_by_sum(nl: &mut Netlist, r: NetId, width: u32, last: u64) -> Result<Ne
     ensures net { IfOk result (λ y. IsNet nl.new.cells y.0 width) }
     ensures words { IfOk result (λ y. InEveryRunFrom (length nl.old.cells) nl.new.cells (λ run. IsTurned run y.0 r.0 width last)) }
 {
+    width.limits();
     let end = constant(nl, width, last)?;
     let at_end = equal(nl, r, end, width)?;
     let one = constant(nl, width, 1)?;
@@ -43,11 +43,12 @@ fn changed(nl: &mut Netlist, r: NetId) -> Result<NetId, NetFault>
     ensures net { IfOk result (λ y. IsNet nl.new.cells y.0 3) }
     ensures words { IfOk result (λ y. InEveryRunFrom (length nl.old.cells) nl.new.cells (λ run. (t : ℕ) → t < length run → bit_xor (word_at run t r.0) (word_at run t y.0) ≡ (word_at run t r.0 + 1) % 2 ^ 3)) }
 {
-    let one = constant(nl, 3, 1)?;
-    let up = doubled(nl, r, 3)?;
-    let odd = either(nl, up, one, 3)?;
-    let low = lowest(nl, r, 3)?;
-    let ones = choose(nl, low, odd, one, 3)?;
+    let three = Width { bits: 3 };
+    let one = constant(nl, three, 1)?;
+    let up = doubled(nl, r, three)?;
+    let odd = either(nl, up, one, three)?;
+    let low = lowest(nl, r, three)?;
+    let ones = choose(nl, low, odd, one, three)?;
     Ok(ones)
 }
 
@@ -63,18 +64,17 @@ fn turned_by_bits(nl: &mut Netlist, r: NetId, last: u64) -> Result<NetId, NetFau
     ensures net { IfOk result (λ y. IsNet nl.new.cells y.0 3) }
     ensures words { IfOk result (λ y. InEveryRunFrom (length nl.old.cells) nl.new.cells (λ run. IsTurned run y.0 r.0 3 last)) }
 {
-    let end = constant(nl, 3, last)?;
-    let at_end = equal(nl, r, end, 3)?;
+    let three = Width { bits: 3 };
+    let end = constant(nl, three, last)?;
+    let at_end = equal(nl, r, end, three)?;
     let ones = changed(nl, r)?;
-    let flips = choose(nl, at_end, r, ones, 3)?;
-    let next = differ(nl, r, flips, 3)?;
+    let flips = choose(nl, at_end, r, ones, three)?;
+    let next = differ(nl, r, flips, three)?;
     Ok(next)
 }
 
 /// The word after that of a counter.
-fn turned(nl: &mut Netlist, r: NetId, width: u32, last: u64) -> Result<NetId, NetFault>
-    requires low { 1 ≤ width }
-    requires high { width ≤ 64 }
+fn turned(nl: &mut Netlist, r: NetId, width: Width, last: u64) -> Result<NetId, NetFault>
     requires net { IsNet nl.old.cells r.0 width }
     requires fits { last < 2 ^ width }
     ensures adds { Adds nl.old nl.new 9 0 }
@@ -84,7 +84,7 @@ fn turned(nl: &mut Netlist, r: NetId, width: u32, last: u64) -> Result<NetId, Ne
     ensures net { IfOk result (λ y. IsNet nl.new.cells y.0 width) }
     ensures words { IfOk result (λ y. InEveryRunFrom (length nl.old.cells) nl.new.cells (λ run. IsTurned run y.0 r.0 width last)) }
 {
-    if width == 3 {
+    if width.bits() == 3 {
         turned_by_bits(nl, r, last)
     } else {
         turned_by_sum(nl, r, width, last)
@@ -95,12 +95,10 @@ fn turned(nl: &mut Netlist, r: NetId, width: u32, last: u64) -> Result<NetId, Ne
 pub fn counter(
     nl: &mut Netlist,
     rst: NetId,
-    width: u32,
+    width: Width,
     last: u64,
     first: u64,
 ) -> Result<NetId, NetFault>
-    requires low { 1 ≤ width }
-    requires high { width ≤ 64 }
     requires rst { IsNet nl.old.cells rst.0 1 }
     requires last { last < 2 ^ width }
     requires first { first < 2 ^ width }

@@ -7,28 +7,24 @@ ghost use Rattle.ae_netlist.specs.Runs.{InEveryRunFrom};
 ghost use Rattle.ae_clocked.specs.Signals.{Adds, Connects, IsConstant, IsFullAt, IsNextOf, IsResult, compares, is_test};
 
 use ae_netlist::{Cell, NetFault, NetId, Netlist};
-use ae_word::WordOp;
+use ae_word::{Width, WordOp};
 
 /// The width of a net, in bits.
-pub fn width_at(nl: &Netlist, x: NetId) -> u32
+pub fn width_at(nl: &Netlist, x: NetId) -> Width
     requires { IsNet nl.now.cells x.0 (width_of nl.now.cells x.0) }
-    ensures width { result ≡ width_of nl.now.cells x.0 }
-    ensures low { 1 ≤ result }
-    ensures high { result ≤ 64 }
+    ensures { result ≡ width_of nl.now.cells x.0 }
 {
     nl.formed();
     match nl.sized(x) {
-        Some(sized) => sized.width,
+        Some(sized) => Width { bits: sized.width },
         None => unreachable!(),
     }
 }
 
 /// Adds a net that has the same word in each clock. `Full` comes only where the netlist has `limit` cells, here and in
 /// each of the calls below.
-pub fn constant(nl: &mut Netlist, width: u32, word: u64) -> Result<NetId, NetFault>
-    requires low { 1 ≤ width }
-    requires high { width ≤ 64 }
-    requires fits { word < 2 ^ width }
+pub fn constant(nl: &mut Netlist, width: Width, word: u64) -> Result<NetId, NetFault>
+    requires { word < 2 ^ width }
     ensures adds { Adds nl.old nl.new 1 0 }
     ensures registers { count_of is_register nl.new.cells ≤ count_of is_register nl.old.cells }
     ensures tests { count_of is_test nl.new.cells ≤ count_of is_test nl.old.cells }
@@ -45,11 +41,9 @@ pub fn operate(
     nl: &mut Netlist,
     op: WordOp,
     args: [NetId; 3],
-    width: u32,
+    width: Width,
 ) -> Result<NetId, NetFault>
-    requires low { 1 ≤ width }
-    requires high { width ≤ 64 }
-    requires operands { IsOperation nl.old.cells op args width }
+    requires { IsOperation nl.old.cells op args width }
     ensures adds { OnOk result (Adds nl.old nl.new 1 (if is_product op then 1 else 0)) }
     ensures err { OnErr result (nl.new ≡ nl.old) }
     ensures registers { count_of is_register nl.new.cells ≤ count_of is_register nl.old.cells }
@@ -63,7 +57,7 @@ pub fn operate(
 }
 
 /// Adds the bit that says whether two nets have equal words.
-pub fn equal(nl: &mut Netlist, a: NetId, b: NetId, width: u32) -> Result<NetId, NetFault>
+pub fn equal(nl: &mut Netlist, a: NetId, b: NetId, width: Width) -> Result<NetId, NetFault>
     requires left { IsNet nl.old.cells a.0 width }
     requires right { IsNet nl.old.cells b.0 width }
     ensures adds { Adds nl.old nl.new 1 0 }
@@ -73,11 +67,11 @@ pub fn equal(nl: &mut Netlist, a: NetId, b: NetId, width: u32) -> Result<NetId, 
     ensures net { IfOk result (λ y. IsNet nl.new.cells y.0 1) }
     ensures words { IfOk result (λ y. InEveryRunFrom (length nl.old.cells) nl.new.cells (λ run. IsResult run y.0 WordOp.Eq width (a ∷ b ∷ a ∷ []))) }
 {
-    operate(nl, WordOp::Eq, [a, b, a], 1)
+    operate(nl, WordOp::Eq, [a, b, a], Width::BIT)
 }
 
 /// Adds the bit that says whether the word of `a` is less than that of `b`.
-pub fn less(nl: &mut Netlist, a: NetId, b: NetId, width: u32) -> Result<NetId, NetFault>
+pub fn less(nl: &mut Netlist, a: NetId, b: NetId, width: Width) -> Result<NetId, NetFault>
     requires left { IsNet nl.old.cells a.0 width }
     requires right { IsNet nl.old.cells b.0 width }
     ensures adds { Adds nl.old nl.new 1 0 }
@@ -87,13 +81,11 @@ pub fn less(nl: &mut Netlist, a: NetId, b: NetId, width: u32) -> Result<NetId, N
     ensures net { IfOk result (λ y. IsNet nl.new.cells y.0 1) }
     ensures words { IfOk result (λ y. InEveryRunFrom (length nl.old.cells) nl.new.cells (λ run. IsResult run y.0 WordOp.Lt width (a ∷ b ∷ a ∷ []))) }
 {
-    operate(nl, WordOp::Lt, [a, b, a], 1)
+    operate(nl, WordOp::Lt, [a, b, a], Width::BIT)
 }
 
 /// Adds the sum of two nets, modulo 2 to their width.
-pub fn sum(nl: &mut Netlist, a: NetId, b: NetId, width: u32) -> Result<NetId, NetFault>
-    requires low { 1 ≤ width }
-    requires high { width ≤ 64 }
+pub fn sum(nl: &mut Netlist, a: NetId, b: NetId, width: Width) -> Result<NetId, NetFault>
     requires left { IsNet nl.old.cells a.0 width }
     requires right { IsNet nl.old.cells b.0 width }
     ensures adds { Adds nl.old nl.new 1 0 }
@@ -107,9 +99,7 @@ pub fn sum(nl: &mut Netlist, a: NetId, b: NetId, width: u32) -> Result<NetId, Ne
 }
 
 /// Adds the bits that are 1 in either of two nets.
-pub fn either(nl: &mut Netlist, a: NetId, b: NetId, width: u32) -> Result<NetId, NetFault>
-    requires low { 1 ≤ width }
-    requires high { width ≤ 64 }
+pub fn either(nl: &mut Netlist, a: NetId, b: NetId, width: Width) -> Result<NetId, NetFault>
     requires left { IsNet nl.old.cells a.0 width }
     requires right { IsNet nl.old.cells b.0 width }
     ensures adds { Adds nl.old nl.new 1 0 }
@@ -123,9 +113,7 @@ pub fn either(nl: &mut Netlist, a: NetId, b: NetId, width: u32) -> Result<NetId,
 }
 
 /// Adds the bits in which two nets differ.
-pub fn differ(nl: &mut Netlist, a: NetId, b: NetId, width: u32) -> Result<NetId, NetFault>
-    requires low { 1 ≤ width }
-    requires high { width ≤ 64 }
+pub fn differ(nl: &mut Netlist, a: NetId, b: NetId, width: Width) -> Result<NetId, NetFault>
     requires left { IsNet nl.old.cells a.0 width }
     requires right { IsNet nl.old.cells b.0 width }
     ensures adds { Adds nl.old nl.new 1 0 }
@@ -139,10 +127,8 @@ pub fn differ(nl: &mut Netlist, a: NetId, b: NetId, width: u32) -> Result<NetId,
 }
 
 /// Adds twice a net, modulo 2 to its width.
-pub fn doubled(nl: &mut Netlist, a: NetId, width: u32) -> Result<NetId, NetFault>
-    requires low { 1 ≤ width }
-    requires high { width ≤ 64 }
-    requires net { IsNet nl.old.cells a.0 width }
+pub fn doubled(nl: &mut Netlist, a: NetId, width: Width) -> Result<NetId, NetFault>
+    requires { IsNet nl.old.cells a.0 width }
     ensures adds { Adds nl.old nl.new 1 0 }
     ensures registers { count_of is_register nl.new.cells ≤ count_of is_register nl.old.cells }
     ensures tests { count_of is_test nl.new.cells ≤ count_of is_test nl.old.cells }
@@ -154,10 +140,8 @@ pub fn doubled(nl: &mut Netlist, a: NetId, width: u32) -> Result<NetId, NetFault
 }
 
 /// Adds the lowest bit of a net.
-pub fn lowest(nl: &mut Netlist, a: NetId, width: u32) -> Result<NetId, NetFault>
-    requires low { 1 ≤ width }
-    requires high { width ≤ 64 }
-    requires net { IsNet nl.old.cells a.0 width }
+pub fn lowest(nl: &mut Netlist, a: NetId, width: Width) -> Result<NetId, NetFault>
+    requires { IsNet nl.old.cells a.0 width }
     ensures adds { Adds nl.old nl.new 1 0 }
     ensures registers { count_of is_register nl.new.cells ≤ count_of is_register nl.old.cells }
     ensures tests { count_of is_test nl.new.cells ≤ count_of is_test nl.old.cells }
@@ -165,7 +149,7 @@ pub fn lowest(nl: &mut Netlist, a: NetId, width: u32) -> Result<NetId, NetFault>
     ensures net { IfOk result (λ y. IsNet nl.new.cells y.0 1) }
     ensures words { IfOk result (λ y. InEveryRunFrom (length nl.old.cells) nl.new.cells (λ run. IsResult run y.0 (WordOp.Cast 1) width (a ∷ a ∷ a ∷ []))) }
 {
-    operate(nl, WordOp::Cast(1), [a, a, a], 1)
+    operate(nl, WordOp::Cast(1), [a, a, a], Width::BIT)
 }
 
 /// Adds a net with the word of `a` where the condition is 1, and else that of `b`.
@@ -174,10 +158,8 @@ pub fn choose(
     condition: NetId,
     a: NetId,
     b: NetId,
-    width: u32,
+    width: Width,
 ) -> Result<NetId, NetFault>
-    requires low { 1 ≤ width }
-    requires high { width ≤ 64 }
     requires condition { IsNet nl.old.cells condition.0 1 }
     requires left { IsNet nl.old.cells a.0 width }
     requires right { IsNet nl.old.cells b.0 width }
@@ -192,9 +174,7 @@ pub fn choose(
 }
 
 /// Adds a register that is still to be connected, as the last cell.
-pub fn register(nl: &mut Netlist, width: u32) -> Result<NetId, NetFault>
-    requires low { 1 ≤ width }
-    requires high { width ≤ 64 }
+pub fn register(nl: &mut Netlist, width: Width) -> Result<NetId, NetFault>
     ensures adds { Adds nl.old nl.new 1 0 }
     ensures registers { count_of is_register nl.new.cells ≤ count_of is_register nl.old.cells + 1 }
     ensures tests { count_of is_test nl.new.cells ≤ count_of is_test nl.old.cells }
@@ -217,10 +197,8 @@ pub fn close(nl: &mut Netlist, r: NetId, next: NetId)
 }
 
 /// Adds a register that has, in each clock, the word that `x` had in the clock before.
-pub fn delayed(nl: &mut Netlist, x: NetId, width: u32) -> Result<NetId, NetFault>
-    requires low { 1 ≤ width }
-    requires high { width ≤ 64 }
-    requires net { IsNet nl.old.cells x.0 width }
+pub fn delayed(nl: &mut Netlist, x: NetId, width: Width) -> Result<NetId, NetFault>
+    requires { IsNet nl.old.cells x.0 width }
     ensures adds { Adds nl.old nl.new 1 0 }
     ensures registers { count_of is_register nl.new.cells ≤ count_of is_register nl.old.cells + 1 }
     ensures tests { count_of is_test nl.new.cells ≤ count_of is_test nl.old.cells }

@@ -13,6 +13,7 @@ ghost use Rattle.ae_clocked.specs.Rings.{AddsMemories, HoldsRing, IsLook, IsRing
 use crate::clocks::Clocks;
 use crate::gates::{constant, delayed, sum};
 use ae_netlist::{Cell, NetFault, NetId, Netlist};
+use ae_word::Width;
 
 /// A memory of 2 to `bits` words, and the counter of its places at which it is written.
 #[derive(Clone, Copy)]
@@ -37,11 +38,9 @@ pub fn store(
     nl: &mut Netlist,
     x: NetId,
     at: NetId,
-    width: u32,
+    width: Width,
     bits: u32,
 ) -> Result<NetId, NetFault>
-    requires low { 1 ≤ width }
-    requires high { width ≤ 64 }
     requires few { bits ≤ 12 }
     requires net { IsNet nl.old.cells x.0 width }
     requires place { IsNet nl.old.cells at.0 bits }
@@ -52,7 +51,7 @@ pub fn store(
     ensures memory { IfOk result (λ m. IsMemory nl.new.cells m.0 width (2 ^ bits)) }
     ensures store { IfOk result (λ m. InEveryRunFrom (length nl.old.cells) nl.new.cells (λ run. IsStore run m.0 at.0 x.0 (2 ^ bits))) }
 {
-    let always = constant(nl, 1, 1)?;
+    let always = constant(nl, Width::BIT, 1)?;
     nl.formed();
     let depth = ring_depth(bits);
     let m = nl.memory(width, depth)?;
@@ -61,9 +60,13 @@ pub fn store(
 }
 
 /// Adds the word of a memory at the place that `at` shows.
-pub fn look(nl: &mut Netlist, m: NetId, at: NetId, width: u32, bits: u32) -> Result<NetId, NetFault>
-    requires low { 1 ≤ width }
-    requires high { width ≤ 64 }
+pub fn look(
+    nl: &mut Netlist,
+    m: NetId,
+    at: NetId,
+    width: Width,
+    bits: u32,
+) -> Result<NetId, NetFault>
     requires memory { IsMemory nl.old.cells m.0 width (2 ^ bits) }
     requires place { IsNet nl.old.cells at.0 bits }
     ensures adds { Adds nl.old nl.new 1 0 }
@@ -78,9 +81,7 @@ pub fn look(nl: &mut Netlist, m: NetId, at: NetId, width: u32, bits: u32) -> Res
 }
 
 /// The word that `x` had `tap` clocks before, from a ring of `x`.
-fn behind(nl: &mut Netlist, ring: Ring, width: u32, tap: u32) -> Result<NetId, NetFault>
-    requires low { 1 ≤ width }
-    requires high { width ≤ 64 }
+fn behind(nl: &mut Netlist, ring: Ring, width: Width, tap: u32) -> Result<NetId, NetFault>
     requires some { 1 ≤ ring.bits }
     requires few { ring.bits ≤ 12 }
     requires late { 1 ≤ tap }
@@ -95,8 +96,9 @@ fn behind(nl: &mut Netlist, ring: Ring, width: u32, tap: u32) -> Result<NetId, N
     ensures tap { IfOk result (λ y. (rst x : ℕ) → IsRing nl.old.cells rst ring.bits x ring.counter.0 ring.memory.0 → IsTap nl.new.cells rst width x tap y.0) }
 {
     let all = ring_depth(ring.bits);
-    let back = constant(nl, ring.bits, u64::from(all - tap))?;
-    let place = sum(nl, ring.counter, back, ring.bits)?;
+    let bits = Width { bits: ring.bits };
+    let back = constant(nl, bits, u64::from(all - tap))?;
+    let place = sum(nl, ring.counter, back, bits)?;
     look(nl, ring.memory, place, width, ring.bits)
 }
 
@@ -104,12 +106,10 @@ fn behind(nl: &mut Netlist, ring: Ring, width: u32, tap: u32) -> Result<NetId, N
 pub fn ring_tap(
     nl: &mut Netlist,
     ring: Ring,
-    width: u32,
+    width: Width,
     tap: u32,
     kept: bool,
 ) -> Result<NetId, NetFault>
-    requires low { 1 ≤ width }
-    requires high { width ≤ 64 }
     requires some { 1 ≤ ring.bits }
     requires few { ring.bits ≤ 12 }
     requires late { 1 ≤ tap }
@@ -152,12 +152,10 @@ pub fn make_ring(
     nl: &mut Netlist,
     clocks: &mut Clocks,
     x: NetId,
-    width: u32,
+    width: Width,
     reach: u32,
 ) -> Result<Ring, NetFault>
     requires belongs { Belongs clocks.old nl.old.cells }
-    requires low { 1 ≤ width }
-    requires high { width ≤ 64 }
     requires most { reach ≤ 4096 }
     requires net { IsNet nl.old.cells x.0 width }
     ensures belongs { Belongs clocks.new nl.new.cells }

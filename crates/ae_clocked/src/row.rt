@@ -12,6 +12,7 @@ ghost use Rattle.ae_clocked.specs.Rows.{AreLinks};
 use crate::clocks::Clocks;
 use crate::ring::{Ring, make_ring, ring_tap};
 use ae_netlist::{NetFault, NetId, Netlist};
+use ae_word::Width;
 use std::alloc::Global;
 
 /// A ring in a row: the net whose words it keeps, and the ring.
@@ -28,13 +29,11 @@ pub fn make_row(
     nl: &mut Netlist,
     clocks: &mut Clocks,
     x: NetId,
-    width: u32,
+    width: Width,
     reach: u32,
     spare: u32,
 ) -> Result<Vec<Link>, NetFault>
     requires belongs { Belongs clocks.old nl.old.cells }
-    requires low { 1 ≤ width }
-    requires high { width ≤ 64 }
     requires late { 1 ≤ reach }
     requires net { IsNet nl.old.cells x.0 width }
     ensures belongs { Belongs clocks.new nl.new.cells }
@@ -64,12 +63,10 @@ pub fn make_row(
 pub fn far_tap(
     nl: &mut Netlist,
     links: &[Link],
-    width: u32,
+    width: Width,
     tap: u32,
     kept: bool,
 ) -> Result<NetId, NetFault>
-    requires low { 1 ≤ width }
-    requires high { width ≤ 64 }
     requires late { 1 ≤ tap }
     requires long { tap ≤ 4096 * length links.now }
     requires links { (rst : ℕ) × (x : ℕ) × (reach : ℕ) × AreLinks nl.old.cells rst width x reach links.now × (tap ≤ reach) }

@@ -14,6 +14,7 @@ use crate::gates::width_at;
 use crate::lines::chain;
 use crate::row::{Link, far_tap, make_row};
 use ae_netlist::{NetFault, NetId, Netlist};
+use ae_word::Width;
 use indexmap::IndexMap;
 use std::alloc::Global;
 use std::marker::Model;
@@ -78,15 +79,14 @@ impl Rings {
 
     /// Whether rings that reach so far are made for a delay: as many memories are left, they take no more cells than the
     /// registers of the delay may, and they hold more bits than a small device would keep in registers.
-    fn allows(&self, delay: u32, reach: u32, width: u32) -> bool
-        requires late { 8 ≤ delay }
-        requires wide { 1 ≤ width }
+    fn allows(&self, delay: u32, reach: u32, width: Width) -> bool
+        requires { 8 ≤ delay }
         ensures { result ≡ true → (delay ≤ reach) × ((reach + 4095) / 4096 ≤ self.now.left) × (18 * ((reach + 4095) / 4096) + 4 ≤ 16 * delay) }
     {
         delay <= reach
             && reach / 2048 <= delay
             && (reach - 1) / 4096 < self.left
-            && reach > 64 / width
+            && reach > 64 / width.bits()
     }
 
     fn spend(&mut self, count: u32)

@@ -13,6 +13,7 @@ ghost use Rattle.ae_elab.specs.Declaring.{Adds, AreDeclared, given_cell};
 use ae_judge::{Names, clock_of, is_named};
 use ae_netlist::{Cell, NetId, Netlist, Port};
 use ae_vread::{NetKind, VModule, VNet};
+use ae_word::Width;
 use std::alloc::{AllocError, Global};
 
 /// Adds a register, for which there is room.
@@ -22,7 +23,7 @@ fn push_register(nl: &mut Netlist, width: u32) -> Result<NetId, AllocError>
     requires room { HasRoom nl.old 1 }
     ensures { IfOk result (λ net. Adds (Some (new_register (length nl.old.cells) width)) nl.old nl.new (Some net)) }
 {
-    nl.push_register(width)
+    nl.push_register(Width { bits: width })
 }
 
 /// Adds a memory, for which there is room.
@@ -34,7 +35,7 @@ fn push_memory(nl: &mut Netlist, width: u32, depth: u32) -> Result<NetId, AllocE
     requires room { HasRoom nl.old 1 }
     ensures { IfOk result (λ net. Adds (Some (new_memory (length nl.old.cells) width depth)) nl.old nl.new (Some net)) }
 {
-    nl.push_memory(width, depth)
+    nl.push_memory(Width { bits: width }, depth)
 }
 
 /// The net of a name, if it has one before any equation is looked at. Inputs are plain ports, numbered as they come.
@@ -52,7 +53,7 @@ fn declare(nl: &mut Netlist, net: &VNet, is_clock: bool) -> Result<Option<NetId>
                 return Ok(None);
             }
             let port = nl.inputs();
-            let input = nl.push(net.width, Cell::Input(Port::Plain(port)))?;
+            let input = nl.push(Width { bits: net.width }, Cell::Input(Port::Plain(port)))?;
             Ok(Some(input))
         }
         NetKind::Reg | NetKind::OutReg => {

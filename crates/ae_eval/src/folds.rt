@@ -26,10 +26,7 @@ fn combine(op: WordOp, atom: &Atom, place: u32, a: u64, b: u64) -> u64
     let Some(signed) = atom.signed(place) else {
         unreachable!();
     };
-    let Some(width) = atom.width(place) else {
-        unreachable!();
-    };
-    apply(op_for(signed, op), width, a, b, 0)
+    apply(op_for(signed, op), atom.word_width(place), a, b, 0)
 }
 
 /// Pushes the operator's results on the words of two values of a type, each by its own kind.

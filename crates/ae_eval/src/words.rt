@@ -13,7 +13,7 @@ ghost use Rattle.ae_eval.specs.Stack.{FitAt, Pushed, window};
 
 use crate::stack::push_word;
 use ae_seqtype::SeqType;
-use ae_word::{Atom, WordOp, apply, op_for};
+use ae_word::{Atom, Width, WordOp, apply, op_for};
 use std::alloc::AllocError;
 
 // The operator on words of the type's kind.
@@ -28,8 +28,8 @@ fn word_result(op: WordOp, ty: &SeqType, a: u64, b: u64, c: u64) -> u64
         unreachable!();
     };
     match atom {
-        Atom::Word(width) => apply(op, *width, a, b, c),
-        Atom::Int(width) => apply(op_for(true, op), *width, a, b, c),
+        Atom::Word(width) => apply(op, Width { bits: *width }, a, b, c),
+        Atom::Int(width) => apply(op_for(true, op), Width { bits: *width }, a, b, c),
         Atom::Pair(_, _) => unreachable!(),
     }
 }

@@ -16,6 +16,7 @@ use ae_gates::{cut, widen};
 use ae_judge::Names;
 use ae_netlist::{Cell, NetId, Netlist};
 use ae_order::place_of;
+use ae_word::Width;
 use std::alloc::AllocError;
 
 /// The net of a name that has one.
@@ -112,7 +113,7 @@ fn peek(
     ensures net { IfOk result (λ y. IsNet nl.new.cells y.0 width) }
     ensures word { IfOk result (λ y. (f : List Clock → ℕ → ℕ) → IsWord from nl.old.cells at.0 _own f → IsWord from nl.new.cells y.0 width (λ run t. get_or (store_at run t memory.0) (f run t) 0)) }
 {
-    let y = nl.push(width, Cell::Peek { mem: memory, at })?;
+    let y = nl.push(Width { bits: width }, Cell::Peek { mem: memory, at })?;
     Ok(y)
 }
 
@@ -128,7 +129,7 @@ pub fn address(nl: &mut Netlist, from: u32, place: u32) -> Result<NetId, AllocEr
     ensures word { IfOk result (λ y. IsWord from nl.new.cells y.0 16 (λ run t. place)) }
     ensures address { IfOk result (λ y. (depth : ℕ) → place < depth → IsAddress nl.new.cells y.0 depth) }
 {
-    let y = nl.push(16, Cell::Const(u64::from(place)))?;
+    let y = nl.push(Width { bits: 16 }, Cell::Const(u64::from(place)))?;
     Ok(y)
 }
 

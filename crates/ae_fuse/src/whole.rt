@@ -26,6 +26,7 @@ use ae_seq::{Func, Node, Typed};
 use ae_sttype::StType;
 use ae_tidy::tidy;
 use ae_trace::moves_words;
+use ae_word::Width;
 use std::alloc::{AllocError, Global};
 use std::marker::Model;
 
@@ -115,7 +116,7 @@ impl Fused {
         let ins = self.ins.as_slice();
         let results = self.results.as_slice();
         let mut nl = Netlist::new(alloc, MOST_CELLS);
-        let rst = add_input(&mut nl, 1, Port::Reset)?;
+        let rst = add_input(&mut nl, Width::BIT, Port::Reset)?;
         let args = add_inputs(alloc, &mut nl, ins)?;
         let mut clocks = Clocks::new(alloc, rst);
         let built = all_nets(

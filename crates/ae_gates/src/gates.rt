@@ -8,7 +8,7 @@ ghost use Rattle.ae_runs.specs.SameRuns.{is_input_cell};
 ghost use Rattle.ae_gates.specs.Cells.{Grows, HasRoom, IsWord};
 
 use ae_netlist::{Cell, NetId, Netlist};
-use ae_word::WordOp;
+use ae_word::{Width, WordOp};
 use std::alloc::AllocError;
 
 /// The same word in each clock.
@@ -24,7 +24,7 @@ pub fn fixed(nl: &mut Netlist, from: u32, width: u32, word: u64) -> Result<NetId
     ensures net { IfOk result (λ y. IsNet nl.new.cells y.0 width) }
     ensures word { IfOk result (λ y. IsWord from nl.new.cells y.0 width (λ run t. word)) }
 {
-    let y = nl.push(width, Cell::Const(word))?;
+    let y = nl.push(Width { bits: width }, Cell::Const(word))?;
     Ok(y)
 }
 
@@ -54,7 +54,7 @@ pub fn gate(
     ensures net { IfOk result (λ y. IsNet nl.new.cells y.0 wide) }
     ensures word { IfOk result (λ y. (f g : List Clock → ℕ → ℕ) → IsWord from nl.old.cells a.0 width f → IsWord from nl.old.cells b.0 width g → IsWord from nl.new.cells y.0 wide (λ run t. word_result op width (f run t) (g run t) (f run t))) }
 {
-    let y = nl.push(wide, Cell::Op(op, [a, b, a]))?;
+    let y = nl.push(Width { bits: wide }, Cell::Op(op, [a, b, a]))?;
     Ok(y)
 }
 
@@ -80,7 +80,7 @@ pub fn select(
     ensures net { IfOk result (λ y. IsNet nl.new.cells y.0 width) }
     ensures word { IfOk result (λ y. (h f g : List Clock → ℕ → ℕ) → IsWord from nl.old.cells bit.0 1 h → IsWord from nl.old.cells a.0 width f → IsWord from nl.old.cells b.0 width g → IsWord from nl.new.cells y.0 width (λ run t. if h run t == 1 then f run t else g run t)) }
 {
-    let y = nl.push(width, Cell::Op(WordOp::Mux, [bit, a, b]))?;
+    let y = nl.push(Width { bits: width }, Cell::Op(WordOp::Mux, [bit, a, b]))?;
     Ok(y)
 }
 

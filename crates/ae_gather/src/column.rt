@@ -18,7 +18,7 @@ use crate::trips::{PhaseNet, Step};
 use ae_clocked::{Clocks, Tapped, choose, constant, delayed, less, operate, width_at};
 use ae_moves::Choice;
 use ae_netlist::{NetFault, NetId, Netlist};
-use ae_word::WordOp;
+use ae_word::{Width, WordOp};
 
 /// The net that has the word of a step.
 fn source(
@@ -27,11 +27,9 @@ fn source(
     ins: &[NetId],
     lines: &[Tapped],
     step: &Step,
-    width: u32,
+    width: Width,
 ) -> Result<NetId, NetFault>
-    requires low { 1 ≤ width }
-    requires high { width ≤ 64 }
-    requires ready { IsReady nl.old.cells clocks.now.rst width ins.now lines.now step.now.tap step.now.take }
+    requires { IsReady nl.old.cells clocks.now.rst width ins.now lines.now step.now.tap step.now.take }
     ensures adds { Adds nl.old nl.new 1 0 }
     ensures counted { Counted nl.old nl.new 0 0 0 0 }
     ensures full { IsFullAt result nl.new }
@@ -79,7 +77,7 @@ fn bits_below(limit: u32) -> u32
 }
 
 /// The low bits of a net.
-fn low_bits(nl: &mut Netlist, x: NetId, width: u32, bits: u32) -> Result<NetId, NetFault>
+fn low_bits(nl: &mut Netlist, x: NetId, width: Width, bits: u32) -> Result<NetId, NetFault>
     requires net { IsNet nl.old.cells x.0 width }
     requires low { 1 ≤ bits }
     requires high { bits ≤ 64 }
@@ -89,7 +87,7 @@ fn low_bits(nl: &mut Netlist, x: NetId, width: u32, bits: u32) -> Result<NetId, 
     ensures net { IfOk result (λ y. IsNet nl.new.cells y.0 bits) }
     ensures words { IfOk result (λ y. InEveryRunFrom (length nl.old.cells) nl.new.cells (λ run. IsResult run y.0 (WordOp.Cast bits) width (x ∷ x ∷ x ∷ []))) }
 {
-    operate(nl, WordOp::Cast(bits), [x, x, x], bits)
+    operate(nl, WordOp::Cast(bits), [x, x, x], Width { bits })
 }
 
 /// The same from the low bits of the counter, where these show the phases below its limit.
@@ -113,6 +111,7 @@ fn compared_low(
 {
     let width = width_at(nl, phase.net);
     let shown = low_bits(nl, phase.net, width, bits)?;
+    let bits = Width { bits };
     let bound = constant(nl, bits, u64::from(from))?;
     less(nl, shown, bound, bits)
 }
@@ -155,7 +154,7 @@ fn before_phase(
     ensures marks { IfOk result (λ y. InEveryResetRun nl.new.cells clocks.now.rst (λ run start. IsMarkTo phase.limit run start y.0 phase.net.0 from)) }
 {
     let bits = bits_below(phase.limit);
-    if bits < width_at(nl, phase.net) {
+    if bits < width_at(nl, phase.net).bits() {
         compared_low(nl, clocks, phase, from, bits)
     } else {
         compared(nl, clocks, phase, from)
@@ -169,12 +168,10 @@ fn choose_by(
     ins: &[NetId],
     lines: &[Tapped],
     step: &Step,
-    width: u32,
+    width: Width,
     early: NetId,
     before: NetId,
 ) -> Result<NetId, NetFault>
-    requires low { 1 ≤ width }
-    requires high { width ≤ 64 }
     requires ready { IsReady nl.old.cells clocks.now.rst width ins.now lines.now step.now.tap step.now.take }
     requires early { IsNet nl.old.cells early.0 1 }
     requires before { IsNet nl.old.cells before.0 width }
@@ -194,12 +191,10 @@ fn choose_from(
     ins: &[NetId],
     lines: &[Tapped],
     step: &Step,
-    width: u32,
+    width: Width,
     phase: PhaseNet,
     before: NetId,
 ) -> Result<NetId, NetFault>
-    requires low { 1 ≤ width }
-    requires high { width ≤ 64 }
     requires phase { IsPhaseNet nl.old.cells clocks.now.rst phase }
     requires within { step.now.from < phase.limit }
     requires ready { IsReady nl.old.cells clocks.now.rst width ins.now lines.now step.now.tap step.now.take }
@@ -220,7 +215,7 @@ fn select(
     ins: &[NetId],
     lines: &[Tapped],
     steps: &[Step],
-    width: u32,
+    width: Width,
     phase: PhaseNet,
 ) -> Result<NetId, NetFault>
     requires phase { IsPhaseNet nl.old.cells clocks.now.rst phase }
@@ -245,7 +240,7 @@ fn select_two(
     ins: &[NetId],
     lines: &[Tapped],
     steps: &[Step],
-    width: u32,
+    width: Width,
     phase: PhaseNet,
 ) -> Result<NetId, NetFault>
     requires belongs { Belongs clocks.old nl.old.cells }
@@ -271,7 +266,7 @@ fn chosen(
     ins: &[NetId],
     lines: &[Tapped],
     steps: &[Step],
-    width: u32,
+    width: Width,
     phase: PhaseNet,
 ) -> Result<NetId, NetFault>
     requires belongs { Belongs clocks.old nl.old.cells }
@@ -312,11 +307,9 @@ fn set_in_reset(
     nl: &mut Netlist,
     clocks: &Clocks,
     chosen: NetId,
-    width: u32,
+    width: Width,
     word: u64,
 ) -> Result<NetId, NetFault>
-    requires low { 1 ≤ width }
-    requires high { width ≤ 64 }
     requires reset { IsNet nl.old.cells clocks.now.rst 1 }
     requires net { IsNet nl.old.cells chosen.0 width }
     requires fits { word < 2 ^ width }
@@ -336,11 +329,9 @@ fn registered(
     nl: &mut Netlist,
     clocks: &Clocks,
     chosen: NetId,
-    width: u32,
+    width: Width,
     first: Choice,
 ) -> Result<NetId, NetFault>
-    requires low { 1 ≤ width }
-    requires high { width ≤ 64 }
     requires reset { IsNet nl.old.cells clocks.now.rst 1 }
     requires net { IsNet nl.old.cells chosen.0 width }
     requires fits { (w : ℕ) → first ≡ Choice.Constant w → w < 2 ^ width }
@@ -362,7 +353,7 @@ fn early_column(
     ins: &[NetId],
     lines: &[Tapped],
     steps: &[Step],
-    width: u32,
+    width: Width,
     phase: PhaseNet,
 ) -> Result<NetId, NetFault>
     requires belongs { Belongs clocks.old nl.old.cells }
@@ -388,7 +379,7 @@ pub fn column(
     ins: &[NetId],
     lines: &[Tapped],
     steps: &[Step],
-    width: u32,
+    width: Width,
     early: bool,
     phase: PhaseNet,
 ) -> Result<NetId, NetFault>

@@ -10,11 +10,10 @@ ghost use Rattle.ae_gather.specs.Held.{IsHeld, IsKept};
 
 use ae_clocked::{choose, close, constant, equal, register, width_at};
 use ae_netlist::{NetFault, NetId, Netlist};
+use ae_word::Width;
 
 /// A register that takes the word of `x` where the bit is 1, and else keeps its own.
-fn kept(nl: &mut Netlist, x: NetId, width: u32, r: NetId, q: u32) -> Result<NetId, NetFault>
-    requires low { 1 ≤ width }
-    requires high { width ≤ 64 }
+fn kept(nl: &mut Netlist, x: NetId, width: Width, r: NetId, q: u32) -> Result<NetId, NetFault>
     requires net { IsNet nl.old.cells x.0 width }
     requires counter { IsNet nl.old.cells r.0 (width_of nl.old.cells r.0) }
     requires fits { q < 2 ^ width_of nl.old.cells r.0 }
@@ -37,14 +36,12 @@ fn kept(nl: &mut Netlist, x: NetId, width: u32, r: NetId, q: u32) -> Result<NetI
 pub fn hold(
     nl: &mut Netlist,
     x: NetId,
-    width: u32,
+    width: Width,
     counter: NetId,
     period: u32,
     offset: u32,
     q: u32,
 ) -> Result<NetId, NetFault>
-    requires low { 1 ≤ width }
-    requires high { width ≤ 64 }
     requires net { IsNet nl.old.cells x.0 width }
     requires begins { offset < period }
     requires within { q < period }

@@ -10,18 +10,17 @@ ghost use Rattle.ae_gather.specs.Readers.{IsReader, RingOf};
 
 use ae_clocked::{Clocks, Ring, delayed, look, ring_depth, store, sum};
 use ae_netlist::{NetFault, NetId, Netlist};
+use ae_word::Width;
 
 /// A ring of the words of a net, with so many bits for its places. Rings of one depth share their counter.
 pub fn make_ring(
     nl: &mut Netlist,
     clocks: &mut Clocks,
     x: NetId,
-    width: u32,
+    width: Width,
     bits: u32,
 ) -> Result<Ring, NetFault>
     requires belongs { Belongs clocks.old nl.old.cells }
-    requires low { 1 ≤ width }
-    requires high { width ≤ 64 }
     requires some { 1 ≤ bits }
     requires few { bits ≤ 12 }
     requires net { IsNet nl.old.cells x.0 width }
@@ -44,9 +43,12 @@ pub fn make_ring(
 
 /// The word that `x` had some clocks before the last one, from a ring of `x`: as many as its place, in the last clock, is
 /// short of a whole turn. What is read stands in a register, so that a memory with a registered output serves.
-pub fn ring_read(nl: &mut Netlist, ring: Ring, place: NetId, width: u32) -> Result<NetId, NetFault>
-    requires low { 1 ≤ width }
-    requires high { width ≤ 64 }
+pub fn ring_read(
+    nl: &mut Netlist,
+    ring: Ring,
+    place: NetId,
+    width: Width,
+) -> Result<NetId, NetFault>
     requires some { 1 ≤ ring.bits }
     requires few { ring.bits ≤ 12 }
     requires memory { IsMemory nl.old.cells ring.memory.0 width (2 ^ ring.bits) }
@@ -58,7 +60,7 @@ pub fn ring_read(nl: &mut Netlist, ring: Ring, place: NetId, width: u32) -> Resu
     ensures net { IfOk result (λ y. IsNet nl.new.cells y.0 width) }
     ensures reads { IfOk result (λ y. (rst x : ℕ) → IsRing nl.old.cells rst ring.bits x ring.counter.0 ring.memory.0 → IsReader nl.new.cells rst ring.bits x place.0 y.0) }
 {
-    let at = sum(nl, ring.counter, place, ring.bits)?;
+    let at = sum(nl, ring.counter, place, Width { bits: ring.bits })?;
     let word = look(nl, ring.memory, at, width, ring.bits)?;
     delayed(nl, word, width)
 }

@@ -22,6 +22,7 @@ use ae_netlist::{Netlist, Port, in_room};
 use ae_retime::Slacks;
 use ae_rewrite::StProgram;
 use ae_tidy::tidy;
+use ae_word::Width;
 use std::alloc::{AllocError, Global};
 
 /// More cells than the reset and the words of the parameters take.
@@ -69,7 +70,7 @@ pub fn lower(
     let last = p.count() - 1;
     let s = instance(p, last);
     let mut nl = Netlist::new(alloc, MOST_INPUTS + 16 * a.load());
-    let rst = add_input(&mut nl, 1, Port::Reset)?;
+    let rst = add_input(&mut nl, Width::BIT, Port::Reset)?;
     let ins = add_inputs(alloc, &mut nl, &s.ins)?;
     let mut clocks = Clocks::new(alloc, rst);
     let mut marks = Vec::new(alloc);

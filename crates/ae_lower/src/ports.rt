@@ -20,28 +20,12 @@ use ae_netlist::{Cell, NetId, Netlist, Port};
 use ae_ops::Bundle;
 use ae_rewrite::StFunc;
 use ae_sttype::StType;
-use ae_word::Atom;
+use ae_word::{Atom, Width};
 use std::alloc::{AllocError, Global};
 
-/// The width of a word of an atom.
-fn word_width(atom: &Atom, word: u32) -> u32
-    requires in_size { IsTrue (atom_in_size (atom_tree atom.now)) }
-    requires below { word < atom_words (atom_tree atom.now) }
-    ensures width { slice_get (map (λ (k : WordKind). k.width) (atom_kinds (atom_tree atom.now))) word ≡ Some result }
-    ensures low { 1 ≤ result }
-    ensures high { result ≤ 64 }
-{
-    match atom.width(word) {
-        Some(width) => width,
-        None => unreachable!(),
-    }
-}
-
 /// Adds an input, for which there is room. The error comes only for want of memory.
-pub fn add_input(nl: &mut Netlist, width: u32, port: Port) -> Result<NetId, AllocError>
-    requires low { 1 ≤ width }
-    requires high { width ≤ 64 }
-    requires room { length nl.old.cells < nl.old.limit }
+pub fn add_input(nl: &mut Netlist, width: Width, port: Port) -> Result<NetId, AllocError>
+    requires { length nl.old.cells < nl.old.limit }
     ensures net { IfOk result (λ n. n ≡ record { 0 = length nl.old.cells }) }
     ensures added { OnOk result (nl.new ≡ record nl.old { cells = nl.old.cells ++ input_cell (record { port = port; width = width }) ∷ [] }) }
 {
@@ -61,8 +45,7 @@ fn lane_inputs(
     ensures { OnOk result (AddsInputs nl.old nl.new nets.old.items nets.new.items (word_ports (In param lane) 0 (map (λ (k : WordKind). k.width) (atom_kinds (atom_tree atom.now))))) }
 {
     for word in 0..atom.words() {
-        let width = word_width(atom, word);
-        let net = add_input(nl, width, Port::In { param, lane, word })?;
+        let net = add_input(nl, atom.word_width(word), Port::In { param, lane, word })?;
         nets.push(net)?;
     }
     Ok(())

@@ -17,18 +17,15 @@ use ae_reduce::Reduce;
 use ae_rewrite::MoveOp;
 use ae_scan::Scan;
 use ae_sttype::StType;
-use ae_word::WordOp;
+use ae_word::{Width, WordOp};
 use std::alloc::{AllocError, Global};
 
 /// The width of the first word of each element.
-pub fn first_width(s: &StType) -> u32
+pub fn first_width(s: &StType) -> Width
     requires { IsInSize (st_tree s.now) }
     ensures { result ≡ first_width (st_tree s.now) }
 {
-    match s.atom().width(0) {
-        Some(width) => width,
-        None => unreachable!(),
-    }
+    s.atom().word_width(0)
 }
 
 fn words(alloc: Global, words: &[u64]) -> Result<Vec<Origin>, AllocError>

@@ -6,6 +6,7 @@ ghost use Rattle.ae_netlist.specs.Circuit.{Circuit, IsNet, IsAllowed, IsFormed, 
 ghost use Rattle.ae_netlist.specs.Counts.{AreNumbered, IsNumbered, cells_of, count_of, is_input};
 
 use crate::cell::{Cell, NetId, Outlet, Port, SizedCell};
+use ae_word::Width;
 use std::alloc::{AllocError, AllocFailed, Global};
 use std::marker::Model;
 
@@ -214,15 +215,14 @@ impl Netlist {
 
     /// Adds an input, a constant, an operator or a peek, for which there is room, as the last cell, and answers its net.
     /// The error comes only for want of memory; the netlist is then unchanged.
-    pub fn push(&mut self, width: u32, cell: Cell) -> Result<NetId, AllocError>
-        requires low { 1 ≤ width }
-        requires high { width ≤ 64 }
+    pub fn push(&mut self, width: Width, cell: Cell) -> Result<NetId, AllocError>
         requires allowed { IsAllowed self.old.cells width cell }
         requires room { length self.old.cells < self.old.limit }
         ensures ok { IfOk result (λ n. n ≡ record { 0 = length self.old.cells }) }
         ensures added { OnOk result (self.new ≡ record self.old { cells = self.old.cells ++ (record { width = width; cell = cell }) ∷ [] }) }
         ensures err { OnErr result (self.new ≡ self.old) }
     {
+        let width = width.bits();
         match cell {
             Cell::Input(_) => self.append_input(SizedCell { width, cell }),
             Cell::Const(_)
@@ -235,14 +235,13 @@ impl Netlist {
 
     /// Adds a register, for which there is room, that keeps its word until it is connected: it names itself. The error
     /// is as for `push`.
-    pub fn push_register(&mut self, width: u32) -> Result<NetId, AllocError>
-        requires low { 1 ≤ width }
-        requires high { width ≤ 64 }
-        requires room { length self.old.cells < self.old.limit }
+    pub fn push_register(&mut self, width: Width) -> Result<NetId, AllocError>
+        requires { length self.old.cells < self.old.limit }
         ensures ok { IfOk result (λ n. n ≡ record { 0 = length self.old.cells }) }
         ensures added { OnOk result (self.new ≡ record self.old { cells = self.old.cells ++ new_register (length self.old.cells) width ∷ [] }) }
         ensures err { OnErr result (self.new ≡ self.old) }
     {
+        let width = width.bits();
         let own = NetId(self.len());
         self.append(SizedCell {
             width,
@@ -252,9 +251,7 @@ impl Netlist {
 
     /// Adds a memory of `depth` words of a width, for which there is room, that is never written until it is connected:
     /// it names itself. The error is as for `push`.
-    pub fn push_memory(&mut self, width: u32, depth: u32) -> Result<NetId, AllocError>
-        requires low { 1 ≤ width }
-        requires high { width ≤ 64 }
+    pub fn push_memory(&mut self, width: Width, depth: u32) -> Result<NetId, AllocError>
         requires some { 1 ≤ depth }
         requires most { depth ≤ 65536 }
         requires room { length self.old.cells < self.old.limit }
@@ -262,6 +259,7 @@ impl Netlist {
         ensures added { OnOk result (self.new ≡ record self.old { cells = self.old.cells ++ new_memory (length self.old.cells) width depth ∷ [] }) }
         ensures err { OnErr result (self.new ≡ self.old) }
     {
+        let width = width.bits();
         let own = NetId(self.len());
         self.append(SizedCell {
             width,
@@ -284,10 +282,8 @@ impl Netlist {
 
     /// Adds an input, a constant, an operator or a peek as the last cell, and answers its net. `Full` comes exactly
     /// where the netlist has `limit` cells; after a refusal it is unchanged.
-    pub fn add(&mut self, width: u32, cell: Cell) -> Result<NetId, NetFault>
-        requires low { 1 ≤ width }
-        requires high { width ≤ 64 }
-        requires allowed { IsAllowed self.old.cells width cell }
+    pub fn add(&mut self, width: Width, cell: Cell) -> Result<NetId, NetFault>
+        requires { IsAllowed self.old.cells width cell }
         ensures ok { IfOk result (λ n. n ≡ record { 0 = length self.old.cells }) }
         ensures added { OnOk result (self.new ≡ record self.old { cells = self.old.cells ++ (record { width = width; cell = cell }) ∷ [] }) }
         ensures full { (result ≡ Err NetFault.Full) ↔ (length self.old.cells ≡ self.old.limit) }
@@ -301,9 +297,7 @@ impl Netlist {
 
     /// Adds a register that keeps its word until it is connected: it names itself. `Full` and a refusal are as for
     /// `add`.
-    pub fn state(&mut self, width: u32) -> Result<NetId, NetFault>
-        requires low { 1 ≤ width }
-        requires high { width ≤ 64 }
+    pub fn state(&mut self, width: Width) -> Result<NetId, NetFault>
         ensures ok { IfOk result (λ n. n ≡ record { 0 = length self.old.cells }) }
         ensures added { OnOk result (self.new ≡ record self.old { cells = self.old.cells ++ new_register (length self.old.cells) width ∷ [] }) }
         ensures full { (result ≡ Err NetFault.Full) ↔ (length self.old.cells ≡ self.old.limit) }
@@ -317,9 +311,7 @@ impl Netlist {
 
     /// Adds a memory of `depth` words of a width, which is never written until it is connected: it names itself.
     /// `Full` and a refusal are as for `add`.
-    pub fn memory(&mut self, width: u32, depth: u32) -> Result<NetId, NetFault>
-        requires low { 1 ≤ width }
-        requires high { width ≤ 64 }
+    pub fn memory(&mut self, width: Width, depth: u32) -> Result<NetId, NetFault>
         requires some { 1 ≤ depth }
         requires most { depth ≤ 65536 }
         ensures ok { IfOk result (λ n. n ≡ record { 0 = length self.old.cells }) }

@@ -9,7 +9,7 @@ ghost use Rattle.ae_ops.specs.Folds.{IsFold};
 
 use crate::compute::compute;
 use ae_netlist::{NetFault, NetId, Netlist};
-use ae_word::WordOp;
+use ae_word::{Width, WordOp};
 
 /// Adds the word of an operator that folds on two words of one clock, of so many bits. It takes at most 8 cells. `Full`
 /// comes only where the netlist has `limit` cells as the call ends; after a refusal it may hold further cells.
@@ -18,10 +18,8 @@ pub fn combined(
     op: WordOp,
     a: NetId,
     b: NetId,
-    width: u32,
+    width: Width,
 ) -> Result<NetId, NetFault>
-    requires low { 1 ≤ width }
-    requires high { width ≤ 64 }
     requires folds { IsFold op }
     requires left { IsNet nl.old.cells a.0 width }
     requires right { IsNet nl.old.cells b.0 width }

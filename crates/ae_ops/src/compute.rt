@@ -10,17 +10,15 @@ ghost use Rattle.ae_ops.specs.Signs.{IsBySign, IsComplemented};
 
 use ae_clocked::{choose, constant, less, operate, sum};
 use ae_netlist::{NetFault, NetId, Netlist};
-use ae_word::{WordOp, result_width};
+use ae_word::{Width, WordOp, result_width};
 
 /// Adds the result of an operator on words of one clock. One that reads its operands as signed is made of others.
 pub fn compute(
     nl: &mut Netlist,
     op: WordOp,
     args: [NetId; 3],
-    width: u32,
+    width: Width,
 ) -> Result<NetId, NetFault>
-    requires low { 1 ≤ width }
-    requires high { width ≤ 64 }
     requires range { HasRange op }
     requires operands { OperandsAre op (IsNet nl.old.cells) args width }
     ensures adds { OnOk result (Adds nl.old nl.new 8 (if is_product op then 1 else 0)) }
@@ -54,19 +52,15 @@ pub fn compute(
 }
 
 /// The least code of a number below 0, or half of all codes.
-fn half(width: u32) -> u64
-    requires low { 1 ≤ width }
-    requires high { width ≤ 64 }
+fn half(width: Width) -> u64
     ensures { result ≡ 2 ^ (width - 1) }
 {
-    1 << (width - 1)
+    1 << (width.bits() - 1)
 }
 
 /// Whether the signed word of `a` is below that of `b`: with half of all codes added to both, their codes stand in the
 /// order of the numbers.
-fn less_signed(nl: &mut Netlist, a: NetId, b: NetId, width: u32) -> Result<NetId, NetFault>
-    requires low { 1 ≤ width }
-    requires high { width ≤ 64 }
+fn less_signed(nl: &mut Netlist, a: NetId, b: NetId, width: Width) -> Result<NetId, NetFault>
     requires left { IsNet nl.old.cells a.0 width }
     requires right { IsNet nl.old.cells b.0 width }
     ensures adds { Adds nl.old nl.new 4 0 }
@@ -74,6 +68,7 @@ fn less_signed(nl: &mut Netlist, a: NetId, b: NetId, width: u32) -> Result<NetId
     ensures net { IfOk result (λ y. IsNet nl.new.cells y.0 1) }
     ensures words { IfOk result (λ y. InEveryRunFrom (length nl.old.cells) nl.new.cells (λ run. IsResult run y.0 WordOp.SLt width (a ∷ b ∷ a ∷ []))) }
 {
+    width.limits();
     let middle = constant(nl, width, half(width))?;
     let left = sum(nl, a, middle, width)?;
     let right = sum(nl, b, middle, width)?;
@@ -81,9 +76,7 @@ fn less_signed(nl: &mut Netlist, a: NetId, b: NetId, width: u32) -> Result<NetId
     Ok(below)
 }
 
-fn least_signed(nl: &mut Netlist, a: NetId, b: NetId, width: u32) -> Result<NetId, NetFault>
-    requires low { 1 ≤ width }
-    requires high { width ≤ 64 }
+fn least_signed(nl: &mut Netlist, a: NetId, b: NetId, width: Width) -> Result<NetId, NetFault>
     requires left { IsNet nl.old.cells a.0 width }
     requires right { IsNet nl.old.cells b.0 width }
     ensures adds { Adds nl.old nl.new 5 0 }
@@ -96,9 +89,7 @@ fn least_signed(nl: &mut Netlist, a: NetId, b: NetId, width: u32) -> Result<NetI
     Ok(least)
 }
 
-fn greatest_signed(nl: &mut Netlist, a: NetId, b: NetId, width: u32) -> Result<NetId, NetFault>
-    requires low { 1 ≤ width }
-    requires high { width ≤ 64 }
+fn greatest_signed(nl: &mut Netlist, a: NetId, b: NetId, width: Width) -> Result<NetId, NetFault>
     requires left { IsNet nl.old.cells a.0 width }
     requires right { IsNet nl.old.cells b.0 width }
     ensures adds { Adds nl.old nl.new 5 0 }
@@ -112,9 +103,7 @@ fn greatest_signed(nl: &mut Netlist, a: NetId, b: NetId, width: u32) -> Result<N
 }
 
 /// Adds an operator on one word, of no product.
-fn on_one(nl: &mut Netlist, op: WordOp, a: NetId, width: u32) -> Result<NetId, NetFault>
-    requires low { 1 ≤ result_width_of op width }
-    requires high { result_width_of op width ≤ 64 }
+fn on_one(nl: &mut Netlist, op: WordOp, a: NetId, width: Width) -> Result<NetId, NetFault>
     requires net { IsNet nl.old.cells a.0 width }
     requires one { arity_of op ≡ 1 }
     requires unsigned { is_signed op ≡ false }
@@ -128,11 +117,7 @@ fn on_one(nl: &mut Netlist, op: WordOp, a: NetId, width: u32) -> Result<NetId, N
 }
 
 /// An operator on the complement of a word, and the complement of that.
-fn complemented(nl: &mut Netlist, a: NetId, op: WordOp, width: u32) -> Result<NetId, NetFault>
-    requires low { 1 ≤ width }
-    requires high { width ≤ 64 }
-    requires to_low { 1 ≤ result_width_of op width }
-    requires to_high { result_width_of op width ≤ 64 }
+fn complemented(nl: &mut Netlist, a: NetId, op: WordOp, width: Width) -> Result<NetId, NetFault>
     requires net { IsNet nl.old.cells a.0 width }
     requires one { arity_of op ≡ 1 }
     requires unsigned { is_signed op ≡ false }
@@ -149,11 +134,7 @@ fn complemented(nl: &mut Netlist, a: NetId, op: WordOp, width: u32) -> Result<Ne
 }
 
 /// An operator on one word: on a code of a number below 0 the complement of its result on the complement.
-fn by_sign(nl: &mut Netlist, a: NetId, op: WordOp, width: u32) -> Result<NetId, NetFault>
-    requires low { 1 ≤ width }
-    requires high { width ≤ 64 }
-    requires to_low { 1 ≤ result_width_of op width }
-    requires to_high { result_width_of op width ≤ 64 }
+fn by_sign(nl: &mut Netlist, a: NetId, op: WordOp, width: Width) -> Result<NetId, NetFault>
     requires net { IsNet nl.old.cells a.0 width }
     requires one { arity_of op ≡ 1 }
     requires unsigned { is_signed op ≡ false }
@@ -163,6 +144,7 @@ fn by_sign(nl: &mut Netlist, a: NetId, op: WordOp, width: u32) -> Result<NetId, 
     ensures net { IfOk result (λ y. IsNet nl.new.cells y.0 (result_width_of op width)) }
     ensures words { IfOk result (λ y. InEveryRunFrom (length nl.old.cells) nl.new.cells (λ run. IsBySign run y.0 op width a.0)) }
 {
+    width.limits();
     let middle = constant(nl, width, half(width))?;
     let positive = less(nl, a, middle, width)?;
     let made = on_one(nl, op, a, width)?;

@@ -12,7 +12,7 @@ use crate::compute::compute;
 use crate::square::square;
 use crate::sums::sum_of;
 use ae_netlist::{NetFault, NetId, Netlist};
-use ae_word::WordOp;
+use ae_word::{Width, WordOp};
 
 /// The net of a result, and how many clocks after its operands it comes.
 #[derive(Clone, Copy)]
@@ -23,9 +23,7 @@ pub struct Made {
 
 /// Adds the result of an operator on words. That of a square comes one clock after its operand, and any other in the
 /// clock of its operands.
-pub fn make(nl: &mut Netlist, op: WordOp, args: [NetId; 3], width: u32) -> Result<Made, NetFault>
-    requires low { 1 ≤ width }
-    requires high { width ≤ 64 }
+pub fn make(nl: &mut Netlist, op: WordOp, args: [NetId; 3], width: Width) -> Result<Made, NetFault>
     requires range { HasRange op }
     requires operands { OperandsAre op (IsNet nl.old.cells) args width }
     ensures adds { OnOk result (Adds nl.old nl.new 9 (if is_product op then 1 else 0)) }

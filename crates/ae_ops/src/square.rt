@@ -9,14 +9,12 @@ ghost use Rattle.ae_ops.specs.Words.{IsResultLater};
 use crate::compute::compute;
 use ae_clocked::delayed;
 use ae_netlist::{NetFault, NetId, Netlist};
-use ae_word::WordOp;
+use ae_word::{Width, WordOp};
 
 /// Adds the square of a word, one clock later. The register stands before the product, where it takes one word's bits
 /// and serves whatever else takes that word a clock later.
-pub fn square(nl: &mut Netlist, x: NetId, width: u32) -> Result<NetId, NetFault>
-    requires low { 1 ≤ width }
-    requires high { width ≤ 64 }
-    requires net { IsNet nl.old.cells x.0 width }
+pub fn square(nl: &mut Netlist, x: NetId, width: Width) -> Result<NetId, NetFault>
+    requires { IsNet nl.old.cells x.0 width }
     ensures adds { OnOk result (Adds nl.old nl.new 9 1) }
     ensures err { OnErr result (Adds nl.old nl.new 9 0) }
     ensures full { IsFullAt result nl.new }

@@ -8,7 +8,7 @@ ghost use Rattle.ae_ops.specs.Gates.{IsGate, IsGatedSum};
 
 use ae_clocked::{choose, sum};
 use ae_netlist::{Cell, NetFault, NetId, Netlist};
-use ae_word::WordOp;
+use ae_word::{Width, WordOp};
 
 /// What makes a net's word: 0 where the condition is 1, and else the word.
 #[derive(Clone, Copy)]
@@ -19,9 +19,7 @@ pub struct Gate {
 
 /// Adds the sum of two words, modulo 2 to their width. Where one of them is a choice between 0 and a word, the choice
 /// stands behind the adder instead of before it, since synthesis puts it into the adder's own cells.
-pub fn sum_of(nl: &mut Netlist, a: NetId, b: NetId, width: u32) -> Result<NetId, NetFault>
-    requires low { 1 ≤ width }
-    requires high { width ≤ 64 }
+pub fn sum_of(nl: &mut Netlist, a: NetId, b: NetId, width: Width) -> Result<NetId, NetFault>
     requires left { IsNet nl.old.cells a.0 width }
     requires right { IsNet nl.old.cells b.0 width }
     ensures adds { Adds nl.old nl.new 2 0 }
@@ -39,9 +37,7 @@ pub fn sum_of(nl: &mut Netlist, a: NetId, b: NetId, width: u32) -> Result<NetId,
 }
 
 /// Adds the sum of two words, the second of which counts as 0 where the gate's condition is 1.
-fn gated(nl: &mut Netlist, a: NetId, gate: Gate, width: u32) -> Result<NetId, NetFault>
-    requires low { 1 ≤ width }
-    requires high { width ≤ 64 }
+fn gated(nl: &mut Netlist, a: NetId, gate: Gate, width: Width) -> Result<NetId, NetFault>
     requires condition { IsNet nl.old.cells gate.condition.0 1 }
     requires left { IsNet nl.old.cells a.0 width }
     requires right { IsNet nl.old.cells gate.word.0 width }

@@ -9,7 +9,7 @@ use crate::make::make;
 use crate::stage::Stage;
 use ae_clocked::{Clocks, line};
 use ae_netlist::{NetFault, NetId, Netlist};
-use ae_word::{WordOp, arity, latency};
+use ae_word::{Width, WordOp, arity, latency};
 use std::alloc::Global;
 use std::marker::Model;
 
@@ -18,7 +18,7 @@ use std::marker::Model;
 #[derive(Drop)]
 pub struct WordStage {
     op: WordOp,
-    width: u32,
+    width: Width,
     period: u32,
 }
 
@@ -31,15 +31,13 @@ impl Model for WordStage {
 
     ghost view = { λ s. record { op = s.op; width = s.width; period = s.period } };
 
-    ghost invariant = { λ s. (1 ≤ s.width) × (s.width ≤ 64) × HasRange s.op × (1 ≤ s.period) };
+    ghost invariant = { λ s. HasRange s.op × (1 ≤ s.period) };
 }
 
 impl WordStage {
     /// The operator on operands of so many bits, for a choice on arms of so many, in each period of so many clocks. Its
     /// latency is the operator's.
-    pub fn new(op: WordOp, width: u32, period: u32) -> WordStage
-        requires low { 1 ≤ width }
-        requires high { width ≤ 64 }
+    pub fn new(op: WordOp, width: Width, period: u32) -> WordStage
         requires range { HasRange op }
         requires some { 1 ≤ period }
         requires most { period ≤ 4096 }

@@ -12,6 +12,7 @@ ghost use Rattle.ae_reduce.specs.Trees.{ArePairs, IsPair};
 use ae_clocked::delayed;
 use ae_fold::{WordFold, joined};
 use ae_netlist::{NetFault, NetId, Netlist};
+use ae_word::Width;
 use std::alloc::Global;
 
 /// The pair of two places, one clock later, or the left one alone where the right one is past the last.
@@ -37,7 +38,7 @@ fn pair(
         let both = joined(nl, fold, nets[left], nets[right])?;
         Ok(both)
     } else {
-        let later = delayed(nl, nets[left], fold.width)?;
+        let later = delayed(nl, nets[left], Width { bits: fold.width })?;
         Ok(later)
     }
 }

@@ -13,6 +13,7 @@ ghost use Rattle.ae_scan.specs.Scans.{sweep_joins};
 use ae_clocked::delayed;
 use ae_fold::{WordFold, joined};
 use ae_netlist::{NetFault, NetId, Netlist};
+use ae_word::Width;
 use std::alloc::Global;
 
 /// A net behind the one `reach` places before it, one clock later, or alone where there is none.
@@ -35,7 +36,7 @@ fn join(
     ensures join { IfOk result (λ y. IsJoin nl.new.cells fold nets.now q reach y.0) }
 {
     if q < reach {
-        let later = delayed(nl, nets[q], fold.width)?;
+        let later = delayed(nl, nets[q], Width { bits: fold.width })?;
         Ok(later)
     } else {
         let both = joined(nl, fold, nets[q - reach], nets[q])?;

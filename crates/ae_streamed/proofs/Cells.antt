@@ -11,10 +11,9 @@ use Rattle.ae_netlist.specs.declared.cell.SizedCell.{SizedCell}
 use Rattle.ae_netlist.specs.Circuit.{Circuit, Extends, IsNet, IsOperation, IsRegister, new_register, operand, width_of}
 use Rattle.ae_netlist.specs.Counts.{cells_of, count_of, is_input, is_mul}
 use Rattle.ae_netlist.proofs.Gets.{get_left, get_pushed, get_set_other, get_set_same}
-use Rattle.ae_netlist.proofs.Growing.{net_later, net_width, width_is, extends_append, extends_length, extends_refl, extends_trans, keeps_connected}
+use Rattle.ae_netlist.proofs.Growing.{net_later, net_width, extends_append, extends_length, extends_refl, extends_trans, keeps_connected}
 use Rattle.ae_stall.specs.Copies.{IsLogic}
 use Rattle.ae_streamed.specs.Cells.{AddsControl, AreChoices, AreConnected, CanConnect, HasRegisters, IsControlCell, IsLonger, StandsBefore, choice, taking}
-use Rattle.ae_clocked.proofs.Added.{register_width, own_register, net_own, net_within}
 
 -- ---- lists
 

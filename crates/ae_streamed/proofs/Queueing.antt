@@ -5,7 +5,7 @@ use Rattle.ae_netlist.specs.declared.cell.Cell.TheVariants.{Reg}
 use Rattle.ae_netlist.specs.declared.cell.SizedCell.{SizedCell}
 use Rattle.ae_netlist.specs.Circuit.{Circuit, IsNet, IsRegister, new_register, width_of}
 use Rattle.ae_netlist.proofs.Gets.{get_pushed, get_set_other, get_set_same}
-use Rattle.ae_netlist.proofs.Growing.{net_later, net_width, width_is}
+use Rattle.ae_netlist.proofs.Growing.{net_later, width_is}
 use Rattle.ae_streamed.specs.declared.driver.Controlled.{Controlled}
 use Rattle.ae_streamed.specs.Cells.{AreChoices, IsLonger, choice, taking}
 use Rattle.ae_streamed.specs.Controls.{net, row}
@@ -14,7 +14,6 @@ use Rattle.ae_streamed.proofs.Cells.{get_behind, longer_by, longer_set, longer_t
 use Rattle.ae_streamed.proofs.Standing.{choice_net, register_net}
 use Rattle.ae_streamed.proofs.Tables.{fit}
 use Rattle.ae_streamed.proofs.Tables.Fit.{before, none}
-use Rattle.ae_clocked.proofs.Added.{own_net as own_width}
 
 -- a register more
 pub longer_one : (a b : Circuit) (w : ℕ) → b ≡ record a { cells = a.cells ++ new_register (length a.cells) w ∷ [] } → (length b.cells ≡ length a.cells + 1)

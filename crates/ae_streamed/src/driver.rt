@@ -8,6 +8,7 @@ ghost use Rattle.ae_streamed.specs.Count.{IsFullFor, control_cells};
 
 use crate::parts::{any_of, choices, connect_all, registers};
 use ae_netlist::{Cell, NetFault, NetId, Netlist};
+use ae_word::Width;
 
 /// The nets that a control reads, of one bit each: the reset; that words stand at the source, and that those at the sink are
 /// taken; the first and the last clock of a block; that elements of the parameters stand in a clock of a block, and that
@@ -62,8 +63,8 @@ fn begin(nl: &mut Netlist, blocks: u32) -> Result<(), NetFault>
     ensures begun { OnOk result (HasBegun nl.old nl.new blocks) }
     ensures full { IsFullFor result nl.old (blocks + 6) }
 {
-    nl.add(1, Cell::Const(0))?;
-    nl.add(1, Cell::Const(1))?;
+    nl.add(Width::BIT, Cell::Const(0))?;
+    nl.add(Width::BIT, Cell::Const(1))?;
     registers(nl, blocks + 4)?;
     Ok(())
 }
@@ -84,7 +85,7 @@ fn gates(nl: &mut Netlist, w: Wires, at: Places, busy: NetId) -> Result<(), NetF
     let newest = flag(at, at.blocks);
     choices(
         nl,
-        1,
+        Width::BIT,
         &[
             [w.first, w.valid, current],
             [w.first, high, w.wants],
@@ -135,7 +136,7 @@ fn flag_gates(nl: &mut Netlist, reset: NetId, at: Places) -> Result<(), NetFault
         let own = NetId(at.base + 5 + j);
         choices(
             nl,
-            1,
+            Width::BIT,
             &[[turns, before, own], [reset, low, NetId(g + 2 * j)]],
         )?;
     }

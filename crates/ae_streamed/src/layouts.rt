@@ -14,7 +14,7 @@ ghost use Rattle.ae_streamed.specs.Count.{any_beat_cells, beat_cells};
 use ae_clocked::{Clocks, constant, operate};
 use ae_netlist::{NetFault, NetId, Netlist};
 use ae_sttype::StType;
-use ae_word::WordOp;
+use ae_word::{Width, WordOp};
 
 /// Adds the bit that is 1 where two bits are.
 fn both(nl: &mut Netlist, a: NetId, b: NetId) -> Result<NetId, NetFault>
@@ -24,7 +24,7 @@ fn both(nl: &mut Netlist, a: NetId, b: NetId) -> Result<NetId, NetFault>
     ensures full { IsFullAt result nl.new }
     ensures told { IfOk result (λ y. (rst : ℕ) (f g : ℕ → Bool) → IsBitOf nl.old.cells rst a.0 f → IsBitOf nl.old.cells rst b.0 g → IsBitOf nl.new.cells rst y.0 (λ c. f c && g c)) }
 {
-    let y = operate(nl, WordOp::And, [a, b, a], 1)?;
+    let y = operate(nl, WordOp::And, [a, b, a], Width::BIT)?;
     Ok(y)
 }
 
@@ -36,7 +36,7 @@ fn either(nl: &mut Netlist, a: NetId, b: NetId) -> Result<NetId, NetFault>
     ensures full { IsFullAt result nl.new }
     ensures told { IfOk result (λ y. (rst : ℕ) (f g : ℕ → Bool) → IsBitOf nl.old.cells rst a.0 f → IsBitOf nl.old.cells rst b.0 g → IsBitOf nl.new.cells rst y.0 (λ c. f c || g c)) }
 {
-    let y = operate(nl, WordOp::Or, [a, b, a], 1)?;
+    let y = operate(nl, WordOp::Or, [a, b, a], Width::BIT)?;
     Ok(y)
 }
 
@@ -77,7 +77,7 @@ fn slot_beat(
 {
     match layout {
         StType::Atom(_) => {
-            let y = constant(nl, 1, 1)?;
+            let y = constant(nl, Width::BIT, 1)?;
             Ok(y)
         }
         StType::T { n, i, of } => {
@@ -112,7 +112,7 @@ pub fn beat(
     ensures full { IsFullAt result nl.new }
     ensures gains { IfOk result (λ y. GainsBit nl.old nl.new clocks.old clocks.new y.0 (λ c. is_beat (map st_tree layouts.now) (phase_of slowdown offset c))) }
 {
-    let mut any = constant(nl, 1, 0)?;
+    let mut any = constant(nl, Width::BIT, 0)?;
     for k in 0..layouts.len() {
         let one = slot_beat(nl, clocks, &layouts[k], offset)?;
         any = either(nl, any, one)?;

@@ -7,7 +7,7 @@ ghost use Rattle.ae_streamed.specs.Controls.{HasAny};
 ghost use Rattle.ae_streamed.specs.Count.{IsFullFor};
 
 use ae_netlist::{Cell, NetFault, NetId, Netlist};
-use ae_word::WordOp;
+use ae_word::{Width, WordOp};
 
 /// Adds so many registers of one bit that are still to be connected.
 pub fn registers(nl: &mut Netlist, count: u32) -> Result<(), NetFault>
@@ -15,16 +15,14 @@ pub fn registers(nl: &mut Netlist, count: u32) -> Result<(), NetFault>
     ensures full { IsFullFor result nl.old count }
 {
     for i in 0..count {
-        nl.state(1)?;
+        nl.state(Width::BIT)?;
     }
     Ok(())
 }
 
 /// Adds a choice for each three nets: the word of the second in a clock in which the first is 1, and else that of the third.
-pub fn choices(nl: &mut Netlist, width: u32, gates: &[[NetId; 3]]) -> Result<(), NetFault>
-    requires low { 1 ≤ width }
-    requires high { width ≤ 64 }
-    requires fit { AreChoices nl.old.cells width gates.now }
+pub fn choices(nl: &mut Netlist, width: Width, gates: &[[NetId; 3]]) -> Result<(), NetFault>
+    requires { AreChoices nl.old.cells width gates.now }
     ensures added { OnOk result (nl.new ≡ record nl.old { cells = nl.old.cells ++ map (choice width) gates.now }) }
     ensures full { IsFullFor result nl.old (length gates.now) }
 {
@@ -66,7 +64,7 @@ pub fn any_of(
     let mut any = low;
     for k in 0..count {
         let at = nl.len();
-        choices(nl, 1, &[[NetId(first + k), high, any]])?;
+        choices(nl, Width::BIT, &[[NetId(first + k), high, any]])?;
         any = NetId(at);
     }
     Ok(any)

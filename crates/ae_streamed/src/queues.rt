@@ -8,21 +8,8 @@ ghost use Rattle.ae_streamed.specs.Count.{IsFullFor};
 
 use crate::driver::Controlled;
 use crate::parts::choices;
+use ae_clocked::width_at;
 use ae_netlist::{NetFault, NetId, Netlist};
-
-/// The width of a net, in bits.
-fn width_at(nl: &Netlist, x: NetId) -> u32
-    requires { IsNet nl.now.cells x.0 (width_of nl.now.cells x.0) }
-    ensures width { result ≡ width_of nl.now.cells x.0 }
-    ensures low { 1 ≤ result }
-    ensures high { result ≤ 64 }
-{
-    nl.formed();
-    match nl.sized(x) {
-        Some(sized) => sized.width,
-        None => unreachable!(),
-    }
-}
 
 /// Adds the queue of a net: a register of the word that stands first, behind it one of the word that stands second, and what
 /// both take.

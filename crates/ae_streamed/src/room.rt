@@ -5,6 +5,7 @@ ghost use Rattle.ae_netlist.specs.Circuit.{NamesItself};
 ghost use Rattle.ae_streamed.specs.Room.{IsBegun, IsMade};
 
 use ae_netlist::{Cell, NetFault, NetId, Netlist, Outlet, SizedCell};
+use ae_word::Width;
 use std::alloc::Global;
 
 fn cell_at(nl: &Netlist, n: u32) -> SizedCell
@@ -34,13 +35,13 @@ fn begin_cell(nl: &Netlist, n: u32, new: &mut Netlist) -> Result<(), NetFault>
     let sized = cell_at(nl, n);
     match sized.cell {
         Cell::Reg { next: _ } => {
-            new.state(sized.width)?;
+            new.state(Width { bits: sized.width })?;
         }
         Cell::Mem { depth, .. } => {
-            new.memory(sized.width, depth)?;
+            new.memory(Width { bits: sized.width }, depth)?;
         }
         Cell::Input(_) | Cell::Const(_) | Cell::Op(_, _) | Cell::Peek { .. } => {
-            new.add(sized.width, sized.cell)?;
+            new.add(Width { bits: sized.width }, sized.cell)?;
         }
     }
     Ok(())

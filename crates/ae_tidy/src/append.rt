@@ -6,6 +6,7 @@ ghost use Rattle.ae_tidy.specs.Copies.{HasDepth, MayFollow};
 ghost use Rattle.ae_tidy.specs.Images.{fresh_cell};
 
 use ae_netlist::{Cell, NetId, Netlist, SizedCell};
+use ae_word::Width;
 use std::alloc::AllocError;
 
 /// Adds a memory as deep as this one, or a register in any other's place, that is connected later; there is room for it.
@@ -18,9 +19,9 @@ pub fn add_late(nl: &mut Netlist, width: u32, cell: Cell) -> Result<NetId, Alloc
     ensures added { OnOk result (nl.new ≡ record nl.old { cells = nl.old.cells ++ (record { width = width; cell = fresh_cell (length nl.old.cells) cell }) ∷ [] }) }
 {
     match cell {
-        Cell::Mem { depth, .. } => nl.push_memory(width, depth),
+        Cell::Mem { depth, .. } => nl.push_memory(Width { bits: width }, depth),
         Cell::Input(_) | Cell::Const(_) | Cell::Op(_, _) | Cell::Peek { .. } | Cell::Reg { .. } =>
-            nl.push_register(width),
+            nl.push_register(Width { bits: width }),
     }
 }
 
@@ -85,7 +86,7 @@ pub fn append(nl: &mut Netlist, sized: SizedCell) -> Result<NetId, AllocError>
             enable,
         } => add_memory(nl, sized.width, depth, at, next, enable),
         Cell::Input(_) | Cell::Const(_) | Cell::Op(_, _) | Cell::Peek { .. } => nl.push(
-            sized.width,
+            Width { bits: sized.width },
             sized.cell,
         ),
     }

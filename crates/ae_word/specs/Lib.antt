@@ -1,3 +1,4 @@
+pub mod Widths
 pub mod AtomText
 pub mod AtomTree
 pub mod WordTable

@@ -1,12 +1,13 @@
 // Atoms: words, and pairs of atoms.
 
-ghost use Rattle.std.specs.Prelude.{◌≡◌, ◌+◌, ◌≤◌, ◌++◌, IfOk, MatchResult, OnOk, Some, length, nat_le, slice_get};
+ghost use Rattle.std.specs.Prelude.{◌≡◌, ◌+◌, ◌<◌, ◌≤◌, ◌++◌, IfOk, IsTrue, MatchResult, OnOk, Some, length, nat_le, slice_get};
 ghost use Rattle.std.specs.Fmt.{decimal};
 ghost use Rattle.std.specs.Option.{option_map};
 ghost use Rattle.std.specs.String.{string_bytes};
 ghost use Rattle.ae_word.specs.AtomText.{atom_text};
 ghost use Rattle.ae_word.specs.AtomTree.{WordKind, atom_in_size, atom_kinds, atom_tree, atom_words, kind_tree, pair_depth, same_atom, widths_in_range};
 
+use crate::width::Width;
 use itoa::Buffer;
 use std::alloc::{AllocError, Global};
 
@@ -47,6 +48,18 @@ impl Atom {
         match self.find(k) {
             Ok(kind) => Some(kind.width),
             Err(_) => None,
+        }
+    }
+
+    /// The width of word k, counted from 0, of an atom in size.
+    pub fn word_width(&self, k: u32) -> Width
+        requires in_size { IsTrue (atom_in_size (atom_tree self.now)) }
+        requires there { k < length (atom_kinds (atom_tree self.now)) }
+        ensures { option_map (λ (w : WordKind). w.width) (slice_get (atom_kinds (atom_tree self.now)) k) ≡ Some result }
+    {
+        match self.find(k) {
+            Ok(kind) => Width { bits: kind.width },
+            Err(_) => unreachable!(),
         }
     }
 

@@ -4,7 +4,9 @@
 mod atom;
 mod op;
 mod result;
+mod width;
 
 pub use atom::Atom;
 pub use op::{WordOp, arity, folds, latency, main_place, multiplies, op_for, result_width};
 pub use result::{apply, fits_width};
+pub use width::Width;

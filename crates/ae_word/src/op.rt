@@ -1,7 +1,9 @@
 // The operators on words.
 
 ghost use Rattle.std.specs.Prelude.{◌≡◌};
-ghost use Rattle.ae_word.specs.WordTable.{arity_of, folds, latency_of, op_for, result_width_of, row_of};
+ghost use Rattle.ae_word.specs.WordTable.{HasRange, arity_of, folds, latency_of, op_for, result_width_of, row_of};
+
+use crate::width::Width;
 
 /// An operator on words of 1 to 64 bits. Signed words are kept as their codes; `SLt` to `SCast` read their operands
 /// as signed, all others as unsigned.
@@ -87,12 +89,16 @@ pub fn latency(op: WordOp) -> u32
 }
 
 /// The width of the result on operands of a width, for a choice that of its arms.
-pub fn result_width(op: WordOp, width: u32) -> u32
+pub fn result_width(op: WordOp, width: Width) -> Width
+    requires { HasRange op }
     ensures { result ≡ result_width_of op width }
 {
     match op {
-        WordOp::Eq | WordOp::Lt | WordOp::SLt => 1,
-        WordOp::Cast(v) | WordOp::SCast(v) => v,
+        WordOp::Eq | WordOp::Lt | WordOp::SLt => Width::BIT,
+        WordOp::Cast(v) | WordOp::SCast(v) => match Width::of(v) {
+            Some(width) => width,
+            None => unreachable!(),
+        },
         WordOp::Add | WordOp::Sub | WordOp::Mul => width,
         WordOp::And | WordOp::Or | WordOp::Xor | WordOp::Not => width,
         WordOp::Min | WordOp::Max | WordOp::SMin | WordOp::SMax | WordOp::Mux => width,

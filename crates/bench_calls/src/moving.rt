@@ -12,7 +12,7 @@ use ae_gather::{Gather, Origin};
 use ae_netlist::{Cell, NetFault, NetId, Netlist, Port};
 use ae_ops::{Bundle, Stage};
 use ae_sttype::StType;
-use ae_word::Atom;
+use ae_word::{Atom, Width};
 use std::alloc::{AllocError, Global};
 use table_text::Page;
 
@@ -85,9 +85,7 @@ fn stage(alloc: Global, order: Order, clocks: u16) -> Result<Option<Gather>, All
 }
 
 // One more input, and its net.
-fn input(nl: &mut Netlist, width: u32, port: Port) -> Result<NetId, NetFault>
-    requires low { 1 ≤ width }
-    requires high { width ≤ 64 }
+fn input(nl: &mut Netlist, width: Width, port: Port) -> Result<NetId, NetFault>
     ensures extends { Extends nl.old.cells nl.new.cells }
     ensures net { IfOk result (λ y. IsNet nl.new.cells y.0 width) }
 {
@@ -115,7 +113,7 @@ fn inputs(alloc: Global, nl: &mut Netlist) -> Result<Bundle, NetFault>
             lane,
             word: 0,
         };
-        let net = input(nl, 16, port)?;
+        let net = input(nl, Width { bits: 16 }, port)?;
         keep(&mut nets, net)?;
     }
     Ok(Bundle::new(nets))
@@ -126,7 +124,7 @@ fn cells(alloc: Global, stage: &Gather, clocks: u16) -> Result<u32, NetFault>
     requires { (move_of stage.now).ins ≡ tseq clocks 0 (sseq 4 (atom (unsigned_word 16))) ∷ [] }
 {
     let mut nl = Netlist::new(alloc, 10_000_000);
-    let rst = input(&mut nl, 1, Port::Reset)?;
+    let rst = input(&mut nl, Width::BIT, Port::Reset)?;
     let mut counters = Clocks::new(alloc, rst);
     let ins = [inputs(alloc, &mut nl)?];
     stage.build(alloc, &mut nl, &mut counters, &ins, 0)?;

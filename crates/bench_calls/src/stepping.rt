@@ -7,6 +7,7 @@ ghost use Rattle.ae_netlist.specs.Counts.{is_input, count_of};
 use ae_clocked::{choose, constant, less, sum};
 use ae_netlist::{NetFault, NetId, Netlist, Port};
 use ae_sim::Sim;
+use ae_word::Width;
 use std::alloc::{AllocError, Global};
 use table_text::Page;
 
@@ -26,9 +27,10 @@ fn group(nl: &mut Netlist, pair: Pair) -> Result<Pair, NetFault>
     ensures left { IfOk result (λ p. IsNet nl.new.cells p.left.0 16) }
     ensures right { IfOk result (λ p. IsNet nl.new.cells p.right.0 16) }
 {
-    let total = sum(nl, pair.left, pair.right, 16)?;
-    let test = less(nl, pair.left, total, 16)?;
-    let chosen = choose(nl, test, total, pair.right, 16)?;
+    let wide = Width { bits: 16 };
+    let total = sum(nl, pair.left, pair.right, wide)?;
+    let test = less(nl, pair.left, total, wide)?;
+    let chosen = choose(nl, test, total, pair.right, wide)?;
     Ok(Pair {
         left: total,
         right: chosen,
@@ -41,8 +43,8 @@ fn circuit(alloc: Global, groups: u32) -> Result<Netlist, NetFault>
     ensures outlets { IfOk result (λ nl. length nl.outlets ≡ 1) }
 {
     let mut nl = Netlist::new(alloc, 10_000_000);
-    let first = constant(&mut nl, 16, 1)?;
-    let second = constant(&mut nl, 16, 3)?;
+    let first = constant(&mut nl, Width { bits: 16 }, 1)?;
+    let second = constant(&mut nl, Width { bits: 16 }, 3)?;
     let mut pair = Pair {
         left: first,
         right: second,

@@ -3,6 +3,7 @@
 use ae_netlist::Netlist;
 use ae_sttype::Slowdown;
 use ae_verilog::{Report, write_module};
+use ae_word::Width;
 use std::alloc::{AllocError, Global};
 use table_text::Page;
 
@@ -10,7 +11,7 @@ use table_text::Page;
 fn length(alloc: Global, count: u32) -> Result<usize, AllocError> {
     let mut nl = Netlist::new(alloc, count);
     for _ in 0..count {
-        if nl.state(8).is_err() {
+        if nl.state(Width { bits: 8 }).is_err() {
             return Ok(0);
         }
     }

@@ -4,12 +4,12 @@ use crate::nets::{net, register};
 use ae_clocked::{constant, sum};
 use ae_netlist::{Cell, Netlist, Port};
 use ae_sttype::StType;
-use ae_word::Atom;
+use ae_word::{Atom, Width};
 use std::alloc::{AllocError, Global};
 
 // A register behind a net of eight bits.
 fn late(nl: &mut Netlist, x: u32) -> Option<u32> {
-    let Ok(own) = nl.state(8) else {
+    let Ok(own) = nl.state(Width { bits: 8 }) else {
         return None;
     };
     let Some(r) = register(nl, own.0, 8) else {
@@ -23,14 +23,14 @@ fn late(nl: &mut Netlist, x: u32) -> Option<u32> {
 }
 
 fn one(nl: &mut Netlist) -> Option<u32> {
-    match constant(nl, 8, 1) {
+    match constant(nl, Width { bits: 8 }, 1) {
         Ok(net) => Some(net.0),
         Err(_) => None,
     }
 }
 
 fn input(nl: &mut Netlist, number: u32) -> Option<u32> {
-    match nl.add(8, Cell::Input(Port::Plain(number))) {
+    match nl.add(Width { bits: 8 }, Cell::Input(Port::Plain(number))) {
         Ok(net) => Some(net.0),
         Err(_) => None,
     }
@@ -43,7 +43,7 @@ fn added(nl: &mut Netlist, a: u32, b: u32) -> Option<u32> {
     let Some(right) = net(nl, b, 8) else {
         return None;
     };
-    match sum(nl, left, right, 8) {
+    match sum(nl, left, right, Width { bits: 8 }) {
         Ok(net) => Some(net.0),
         Err(_) => None,
     }
@@ -66,7 +66,7 @@ fn show(nl: &mut Netlist, number: u32) -> Option<()> {
 /// The sum of a byte and 1, or of two bytes, some clocks later: a netlist of at most so many cells.
 pub fn built(alloc: Global, limit: u32, two: bool, latency: u32) -> Option<Netlist> {
     let mut nl = Netlist::new(alloc, limit);
-    let Ok(_reset) = nl.add(1, Cell::Input(Port::Reset)) else {
+    let Ok(_reset) = nl.add(Width::BIT, Cell::Input(Port::Reset)) else {
         return None;
     };
     let a = input(&mut nl, 0)?;

@@ -10,6 +10,7 @@ use crate::nets::{any_net, net};
 use crate::stepping::step_one;
 use ae_clocked::{Clocks, Tapped, constant, less, line, ring_line, width_at};
 use ae_netlist::{Cell, NetFault, NetId, Netlist, Port};
+use ae_word::Width;
 use std::alloc::Global;
 use table_text::{Page, number_at, parted, word_at};
 
@@ -74,9 +75,7 @@ fn lead(clocks: &mut Clocks, nl: &mut Netlist, text: &str) -> Answer
 }
 
 // The bit that says whether a net is below a number.
-fn below_of(nl: &mut Netlist, a: NetId, width: u32, word: u64) -> Result<NetId, NetFault>
-    requires low { 1 ≤ width }
-    requires high { width ≤ 64 }
+fn below_of(nl: &mut Netlist, a: NetId, width: Width, word: u64) -> Result<NetId, NetFault>
     requires left { IsNet nl.old.cells a.0 width }
     requires fits { word < 2 ^ width }
     ensures { Grows nl.old nl.new }
@@ -95,7 +94,8 @@ fn below(clocks: &Clocks, nl: &mut Netlist, last: NetId, text: &str) -> Answer
     };
     let width = width_at(nl, a);
     let word = u64::from(number_at(text, 1));
-    if width >= 64 || word >= 1u64 << width {
+    let bits = width.bits();
+    if bits >= 64 || word >= 1u64 << bits {
         return None;
     }
     Some(below_of(nl, a, width, word))
@@ -199,7 +199,7 @@ fn tell_call(out: &mut Page, text: &str, answer: Answer, grown: bool) {
 // The calls of some lines, on a netlist of at most so many cells as the first line says. Its net 0 is the reset.
 fn built(alloc: Global, out: &mut Page, head: &str, calls: &str) -> Netlist {
     let mut nl = Netlist::new(alloc, number_at(head, 1));
-    let _ = nl.add(1, Cell::Input(Port::Reset));
+    let _ = nl.add(Width::BIT, Cell::Input(Port::Reset));
     let Some(rst) = net(&nl, 0, 1) else {
         return nl;
     };

@@ -7,6 +7,7 @@ use crate::stepping::step_all;
 use ae_clocked::{constant, sum};
 use ae_netlist::{Cell, NetFault, NetId, Netlist, Port};
 use ae_tidy::tidy;
+use ae_word::Width;
 use std::alloc::{AllocError, Global};
 use table_text::{Page, number_at, parted, word_at};
 
@@ -14,16 +15,8 @@ use table_text::{Page, number_at, parted, word_at};
 pub type Answer = Option<Result<NetId, NetFault>>;
 
 // The width behind the name of a call.
-fn width(line: &str) -> Option<u32>
-    ensures low { IfSome result (λ w. 1 ≤ w) }
-    ensures high { IfSome result (λ w. w ≤ 64) }
-{
-    let width = number_at(line, 1);
-    if 1 <= width && width <= 64 {
-        Some(width)
-    } else {
-        None
-    }
+fn width(line: &str) -> Option<Width> {
+    Width::of(number_at(line, 1))
 }
 
 fn input(nl: &mut Netlist, line: &str) -> Answer {
@@ -35,7 +28,8 @@ fn input(nl: &mut Netlist, line: &str) -> Answer {
 fn add_constant(nl: &mut Netlist, line: &str) -> Answer {
     let width = width(line)?;
     let word = u64::from(number_at(line, 2));
-    if width < 64 && word < 1u64 << width {
+    let bits = width.bits();
+    if bits < 64 && word < 1u64 << bits {
         Some(constant(nl, width, word))
     } else {
         None
@@ -44,8 +38,9 @@ fn add_constant(nl: &mut Netlist, line: &str) -> Answer {
 
 fn add(nl: &mut Netlist, line: &str) -> Answer {
     let width = width(line)?;
-    let a = net(nl, number_at(line, 2), width)?;
-    let b = net(nl, number_at(line, 3), width)?;
+    let bits = width.bits();
+    let a = net(nl, number_at(line, 2), bits)?;
+    let b = net(nl, number_at(line, 3), bits)?;
     Some(sum(nl, a, b, width))
 }
 
@@ -65,7 +60,7 @@ fn store(nl: &mut Netlist, line: &str) -> Answer {
 
 fn peek(nl: &mut Netlist, line: &str) -> Answer {
     let width = width(line)?;
-    let Some(m) = memory(nl, number_at(line, 2), width) else {
+    let Some(m) = memory(nl, number_at(line, 2), width.bits()) else {
         return None;
     };
     let Some(at) = address(nl, number_at(line, 3), m.1) else {

@@ -90,7 +90,7 @@ pub fn address(nl: &Netlist, number: u32, depth: u32) -> Option<NetId>
     let Some(net) = any_net(nl, number) else {
         return None;
     };
-    let width = width_at(nl, net);
+    let width = width_at(nl, net).bits();
     if !has_room(depth, width) {
         return None;
     }

@@ -54,7 +54,7 @@ fn width_of_output(nl: &Netlist, k: u32) -> u32
 {
     nl.formed();
     match nl.output(k) {
-        Some(outlet) => width_at(nl, outlet.net),
+        Some(outlet) => width_at(nl, outlet.net).bits(),
         None => 0,
     }
 }

@@ -7,7 +7,7 @@ ghost use Rattle.ae_verilog.specs.Notes.{ArePrinted, note_tree};
 use ae_netlist::{Cell, Handshake, NetFault, Netlist, Port};
 use ae_sttype::{Slowdown, StType};
 use ae_verilog::{Note, Report, write_module};
-use ae_word::Atom;
+use ae_word::{Atom, Width};
 use std::alloc::{AllocError, Global};
 
 fn in_time(alloc: Global, n: u32, i: u32, of: StType) -> Result<StType, AllocError> {
@@ -28,23 +28,23 @@ fn pair(alloc: Global, left: Atom, right: Atom) -> Result<Atom, AllocError> {
 // The reset, a word of a parameter, a constant, and a register and a memory that nothing writes.
 fn small(alloc: Global) -> Result<Netlist, NetFault> {
     let mut nl = Netlist::new(alloc, 8);
-    nl.add(1, Cell::Input(Port::Reset))?;
+    nl.add(Width::BIT, Cell::Input(Port::Reset))?;
     let port = Port::In {
         param: 0,
         lane: 1,
         word: 20,
     };
-    nl.add(8, Cell::Input(port))?;
-    nl.add(8, Cell::Const(10))?;
-    nl.state(1)?;
-    nl.memory(16, 1)?;
+    nl.add(Width { bits: 8 }, Cell::Input(port))?;
+    nl.add(Width { bits: 8 }, Cell::Const(10))?;
+    nl.state(Width::BIT)?;
+    nl.memory(Width { bits: 16 }, 1)?;
     Ok(nl)
 }
 
 // A constant, which the second result shows.
 fn second(alloc: Global) -> Result<Netlist, NetFault> {
     let mut nl = Netlist::new(alloc, 1);
-    let one = nl.add(8, Cell::Const(1))?;
+    let one = nl.add(Width { bits: 8 }, Cell::Const(1))?;
     let port = Port::Out {
         result: 1,
         lane: 0,
@@ -59,8 +59,11 @@ fn second(alloc: Global) -> Result<Netlist, NetFault> {
 // The wires of a stream: words pass at the source where they pass at the sink.
 fn joined(alloc: Global) -> Result<Netlist, NetFault> {
     let mut nl = Netlist::new(alloc, 2);
-    let valid = nl.add(1, Cell::Input(Port::Stream(Handshake::SourceValid)))?;
-    let ready = nl.add(1, Cell::Input(Port::Stream(Handshake::SinkReady)))?;
+    let valid = nl.add(
+        Width::BIT,
+        Cell::Input(Port::Stream(Handshake::SourceValid)),
+    )?;
+    let ready = nl.add(Width::BIT, Cell::Input(Port::Stream(Handshake::SinkReady)))?;
     nl.add_output(Port::Stream(Handshake::SourceReady), ready)?;
     nl.add_output(Port::Stream(Handshake::SinkValid), valid)?;
     Ok(nl)

@@ -11,6 +11,7 @@ use ae_clocked::Clocks;
 use ae_netlist::{Cell, NetFault, NetId, Netlist, Port};
 use ae_ops::{Bundle, Stage, delay};
 use ae_sim::Sim;
+use ae_word::Width;
 use std::alloc::{AllocError, Global};
 use table_text::{Page, fits, tell_outputs};
 
@@ -79,9 +80,7 @@ impl Times {
 }
 
 /// One more input.
-pub fn input(nl: &mut Netlist, width: u32) -> Result<NetId, NetFault>
-    requires low { 1 ≤ width }
-    requires high { width ≤ 64 }
+pub fn input(nl: &mut Netlist, width: Width) -> Result<NetId, NetFault>
     ensures extends { Extends nl.old.cells nl.new.cells }
     ensures net { IfOk result (λ y. IsNet nl.new.cells y.0 width) }
 {
@@ -98,9 +97,7 @@ fn keep(nets: &mut Vec<NetId>, net: NetId) -> Result<(), NetFault>
 }
 
 // So many more inputs of one width.
-fn inputs(alloc: Global, nl: &mut Netlist, lanes: u32, width: u32) -> Result<Bundle, NetFault>
-    requires low { 1 ≤ width }
-    requires high { width ≤ 64 }
+fn inputs(alloc: Global, nl: &mut Netlist, lanes: u32, width: Width) -> Result<Bundle, NetFault>
     ensures extends { OnOk result (Extends nl.old.cells nl.new.cells) }
     ensures nets { IfOk result (λ nets. AreEven nl.new.cells lanes width nets) }
 {
@@ -251,15 +248,13 @@ fn run_lanes<S: Stage>(
     stage: &S,
     nl: &mut Netlist,
     lanes: u32,
-    width: u32,
+    width: Width,
     words: &[u64],
     times: Times,
 ) -> Result<(), NoRoom>
     requires takes { TakesLanes (S.part stage.now) lanes width }
-    requires low { 1 ≤ width }
-    requires high { width ≤ 64 }
 {
-    let rst = input(nl, 1)?;
+    let rst = input(nl, Width::BIT)?;
     let ins = [inputs(alloc, nl, lanes, width)?];
     let mut clocks = Clocks::new(alloc, rst);
     run(alloc, out, stage, nl, &mut clocks, &ins, words, times)
@@ -271,13 +266,11 @@ pub fn over_lanes<S: Stage>(
     out: &mut Page,
     stage: &S,
     lanes: u32,
-    width: u32,
+    width: Width,
     words: &[u64],
     times: Times,
 ) -> Result<(), NoRoom>
     requires takes { TakesLanes (S.part stage.now) lanes width }
-    requires low { 1 ≤ width }
-    requires high { width ≤ 64 }
 {
     let mut nl = Netlist::new(alloc, 65536);
     run_lanes(alloc, out, stage, &mut nl, lanes, width, words, times)
@@ -291,7 +284,7 @@ fn show_late(
     bundle: &Bundle,
     slack: u32,
     lanes: u32,
-    width: u32,
+    width: Width,
 ) -> Result<(), NoRoom>
     requires belongs { Belongs clocks.old nl.old.cells }
     requires nets { AreEven nl.old.cells lanes width bundle.now }
@@ -306,13 +299,10 @@ fn show_inputs(
     alloc: Global,
     nl: &mut Netlist,
     lanes: u32,
-    width: u32,
+    width: Width,
     slack: u32,
-) -> Result<(), NoRoom>
-    requires low { 1 ≤ width }
-    requires high { width ≤ 64 }
-{
-    let rst = input(nl, 1)?;
+) -> Result<(), NoRoom> {
+    let rst = input(nl, Width::BIT)?;
     let bundle = inputs(alloc, nl, lanes, width)?;
     let mut clocks = Clocks::new(alloc, rst);
     show_late(alloc, nl, &mut clocks, &bundle, slack, lanes, width)
@@ -323,13 +313,10 @@ pub fn delayed_words(
     alloc: Global,
     out: &mut Page,
     lanes: u32,
-    width: u32,
+    width: Width,
     slack: u32,
     words: &[u64],
-) -> Result<(), NoRoom>
-    requires low { 1 ≤ width }
-    requires high { width ≤ 64 }
-{
+) -> Result<(), NoRoom> {
     out.tell("delay ", &slack);
     let mut nl = Netlist::new(alloc, 65536);
     show_inputs(alloc, &mut nl, lanes, width, slack)?;

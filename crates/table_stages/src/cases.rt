@@ -19,7 +19,7 @@ use ae_ops::{Bundle, WordStage};
 use ae_reduce::Reduce;
 use ae_scan::Scan;
 use ae_sttype::StType;
-use ae_word::{Atom, WordOp, arity};
+use ae_word::{Atom, Width, WordOp, arity};
 use std::alloc::{AllocError, Global};
 use table_text::{Page, number_at, numbers, parted, word_at};
 
@@ -94,7 +94,15 @@ fn reduce(alloc: Global, out: &mut Page, fold: Fold, words: &[u64]) -> Result<()
     match Reduce::new(fold.op, fold.slots, fold.lanes, element, fold.period) {
         Some(stage) if 1 <= fold.width && fold.width <= 64 => {
             let times = blocks(0, fold.clocks);
-            over_lanes(alloc, out, &stage, fold.lanes, fold.width, words, times)
+            over_lanes(
+                alloc,
+                out,
+                &stage,
+                fold.lanes,
+                Width { bits: fold.width },
+                words,
+                times,
+            )
         }
         _ => refused(out),
     }
@@ -105,7 +113,15 @@ fn scan(alloc: Global, out: &mut Page, fold: Fold, words: &[u64]) -> Result<(), 
     match Scan::new(fold.op, fold.slots, fold.lanes, element, fold.period) {
         Some(stage) if 1 <= fold.width && fold.width <= 64 => {
             let times = blocks(0, fold.slots.saturating_mul(fold.clocks));
-            over_lanes(alloc, out, &stage, fold.lanes, fold.width, words, times)
+            over_lanes(
+                alloc,
+                out,
+                &stage,
+                fold.lanes,
+                Width { bits: fold.width },
+                words,
+                times,
+            )
         }
         _ => refused(out),
     }
@@ -213,20 +229,26 @@ fn gather(
         Some(stage) if 1 <= width && width <= 64 => {
             let stage = alone_if(stage, head.contains("alone"));
             let times = blocks(number_at(head, 15), clocks);
-            over_lanes(alloc, out, &stage, lanes, width, words, times)
+            over_lanes(
+                alloc,
+                out,
+                &stage,
+                lanes,
+                Width { bits: width },
+                words,
+                times,
+            )
         }
         _ => refused(out),
     }
 }
 
 // A word or 0 by a bit, and the bit is 1 for 0.
-fn gated(nl: &mut Netlist, width: u32) -> Result<NetId, NetFault>
-    requires low { 1 ≤ width }
-    requires high { width ≤ 64 }
+fn gated(nl: &mut Netlist, width: Width) -> Result<NetId, NetFault>
     ensures extends { OnOk result (Extends nl.old.cells nl.new.cells) }
     ensures net { IfOk result (λ y. IsNet nl.new.cells y.0 width) }
 {
-    let bit = input(nl, 1)?;
+    let bit = input(nl, Width::BIT)?;
     let word = input(nl, width)?;
     let none = constant(nl, width, 0)?;
     let chosen = choose(nl, bit, none, word, width)?;
@@ -240,9 +262,7 @@ struct Pair {
     right: NetId,
 }
 
-fn operands(nl: &mut Netlist, form: Form, width: u32) -> Result<Pair, NetFault>
-    requires low { 1 ≤ width }
-    requires high { width ≤ 64 }
+fn operands(nl: &mut Netlist, form: Form, width: Width) -> Result<Pair, NetFault>
     ensures extends { OnOk result (Extends nl.old.cells nl.new.cells) }
     ensures left { IfOk result (λ pair. IsNet nl.new.cells pair.left.0 width) }
     ensures right { IfOk result (λ pair. IsNet nl.new.cells pair.right.0 width) }
@@ -290,11 +310,9 @@ fn of_operands(
     clocks: &mut Clocks,
     op: WordOp,
     pair: Pair,
-    width: u32,
+    width: Width,
     words: &[u64],
 ) -> Result<(), NoRoom>
-    requires low { 1 ≤ width }
-    requires high { width ≤ 64 }
     requires range { HasRange op }
     requires few { arity_of op ≤ 2 }
     requires belongs { Belongs clocks.old nl.old.cells }
@@ -325,15 +343,13 @@ fn word_in(
     nl: &mut Netlist,
     op: WordOp,
     form: Form,
-    width: u32,
+    width: Width,
     words: &[u64],
 ) -> Result<(), NoRoom>
-    requires low { 1 ≤ width }
-    requires high { width ≤ 64 }
     requires range { HasRange op }
     requires few { arity_of op ≤ 2 }
 {
-    let rst = input(nl, 1)?;
+    let rst = input(nl, Width::BIT)?;
     let pair = operands(nl, form, width)?;
     let mut clocks = Clocks::new(alloc, rst);
     of_operands(alloc, out, nl, &mut clocks, op, pair, width, words)
@@ -350,7 +366,10 @@ fn word(
 ) -> Result<(), NoRoom>
     requires range { HasRange op }
 {
-    if width == 0 || width > 64 || arity(op) > 2 {
+    let Some(width) = Width::of(width) else {
+        return refused(out);
+    };
+    if arity(op) > 2 {
         return refused(out);
     }
     let mut nl = Netlist::new(alloc, 65536);
@@ -396,10 +415,9 @@ fn of_operator(
 
 // A bundle some clocks later.
 fn late(alloc: Global, out: &mut Page, head: &str, words: &[u64]) -> Result<(), NoRoom> {
-    let width = number_at(head, 5);
-    if width == 0 || width > 64 {
+    let Some(width) = Width::of(number_at(head, 5)) else {
         return refused(out);
-    }
+    };
     delayed_words(
         alloc,
         out,

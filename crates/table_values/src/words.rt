@@ -3,7 +3,7 @@
 ghost use Rattle.std.specs.Prelude.{IsTrue};
 ghost use Rattle.ae_word.specs.WordTable.{OperandsFit};
 
-use ae_word::{WordOp, apply, arity, fits_width, latency, result_width};
+use ae_word::{Width, WordOp, apply, arity, fits_width, latency, result_width};
 use table_text::{Page, names_width, number_at, operator, parted};
 
 // The operator of a name, with the number that stands behind a point, as `shl.7`; a sum where there is none.
@@ -33,11 +33,11 @@ fn number(text: &str) -> u64 {
     text.parse::<u64>().unwrap_or(0)
 }
 
-fn tell_result(out: &mut Page, op: WordOp, width: u32, fields: &str) {
+fn tell_result(out: &mut Page, op: WordOp, width: Width, fields: &str) {
     let (a, others) = parted(fields, ",");
     let (b, c) = parted(others, ",");
     let (a, b, c) = (number(a), number(b), number(c));
-    if width < 1 || 64 < width || !names_width(op) || !are_operands(op, width, a, b, c) {
+    if !names_width(op) || !are_operands(op, width.bits(), a, b, c) {
         return out.say(" none");
     }
     out.tell(" ", &apply(op, width, a, b, c));
@@ -48,10 +48,12 @@ pub fn results(out: &mut Page, text: &str) {
     let (head, operands) = parted(text, ":");
     let (name, width) = parted(head, " ");
     let op = named(name);
-    let width = number_at(width, 1);
     out.say(" ->");
     for fields in operands.split_whitespace() {
-        tell_result(out, op, width, fields);
+        match Width::of(number_at(width, 1)) {
+            Some(width) => tell_result(out, op, width, fields),
+            None => out.say(" none"),
+        }
     }
 }
 
@@ -60,6 +62,9 @@ pub fn traits(out: &mut Page, text: &str) {
     let (name, width) = parted(text, " ");
     let op = named(name);
     out.tell(" -> operands ", &arity(op));
-    out.tell(", bits ", &result_width(op, number_at(width, 1)));
+    match Width::of(number_at(width, 1)) {
+        Some(width) if names_width(op) => out.tell(", bits ", &result_width(op, width).bits()),
+        _ => out.say(", bits none"),
+    }
     out.tell(", clocks ", &latency(op));
 }

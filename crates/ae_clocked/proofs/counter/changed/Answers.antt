@@ -6,14 +6,14 @@ use Rattle.ae_clocked.proofs.Added.{grows_length, back}
 use Rattle.ae_clocked.proofs.Turns.{ones_are, word_below}
 use Rattle.ae_clocked.proofs.counter.changed.Goals as goal
 
-pub doubled-requires-clause-net : goal.doubled-requires-clause-net
-doubled-requires-clause-net c = net_added c.in_ok-one.ensures.adds c.requires.net
+pub doubled-requires : goal.doubled-requires
+doubled-requires c = net_added c.in_ok-one.ensures.adds c.requires.net
 
 pub either-requires-clause-right : goal.either-requires-clause-right
 either-requires-clause-right c = net_added c.in_ok-up.ensures.adds c.in_ok-one.ensures.net
 
-pub lowest-requires-clause-net : goal.lowest-requires-clause-net
-lowest-requires-clause-net c = net_added (adds_trans (adds_trans c.in_ok-one.ensures.adds c.in_ok-up.ensures.adds) c.in_ok-odd.ensures.adds) c.requires.net
+pub lowest-requires : goal.lowest-requires
+lowest-requires c = net_added (adds_trans (adds_trans c.in_ok-one.ensures.adds c.in_ok-up.ensures.adds) c.in_ok-odd.ensures.adds) c.requires.net
 
 pub choose-requires-clause-left : goal.choose-requires-clause-left
 choose-requires-clause-left c = net_added c.in_ok-low.ensures.adds c.in_ok-odd.ensures.net

@@ -9,8 +9,8 @@ use Rattle.ae_clocked.proofs.counter.turned_by_sum.Goals as goal
 pub equal-requires-clause-left : goal.equal-requires-clause-left
 equal-requires-clause-left c = net_added c.in_ok-end.ensures.adds c.requires.net
 
-pub constant-requires-2-clause-fits : goal.constant-requires-2-clause-fits
-constant-requires-2-clause-fits c = one_fits _ c.requires.low
+pub constant-requires-2 : goal.constant-requires-2
+constant-requires-2 c = one_fits _ c.limits.ensures.0
 
 pub sum-requires-clause-left : goal.sum-requires-clause-left
 sum-requires-clause-left c = net_added (adds_trans (adds_trans c.in_ok-end.ensures.adds c.in_ok-at_end.ensures.adds) c.in_ok-one.ensures.adds) c.requires.net

@@ -4,8 +4,8 @@ use Rattle.ae_clocked.proofs.Adding.{always}
 use Rattle.ae_clocked.proofs.Added.{choose_operation, result_at}
 use Rattle.ae_clocked.proofs.gates.choose.Goals as goal
 
-pub operate-requires-clause-operands : goal.operate-requires-clause-operands
-operate-requires-clause-operands c = choose_operation _ c.args.condition c.args.a c.args.b c.args.width c.requires.condition c.requires.left c.requires.right
+pub operate-requires : goal.operate-requires
+operate-requires c = choose_operation _ c.args.condition c.args.a c.args.b c.args.width c.requires.condition c.requires.left c.requires.right
 
 pub returns-clause-words : goal.returns-clause-words
 returns-clause-words c =

@@ -7,7 +7,7 @@ pub close-requires-clause-register : goal.close-requires-clause-register
 close-requires-clause-register c = own_register c.in_ok-r.ensures.register
 
 pub close-requires-clause-next : goal.close-requires-clause-next
-close-requires-clause-next c = net_own c.in_ok-r.ensures.register (net_added c.in_ok-r.ensures.adds c.requires.net)
+close-requires-clause-next c = net_own c.in_ok-r.ensures.register (net_added c.in_ok-r.ensures.adds c.requires)
 
 pub returns-clause-adds : goal.returns-clause-adds
 returns-clause-adds c = adds_connect c.in_ok-r.ensures.adds (omega (arith, c.in_ok-r.ensures.fresh)) c.close.ensures

@@ -4,8 +4,8 @@ use Rattle.ae_clocked.proofs.Adding.{always}
 use Rattle.ae_clocked.proofs.Added.{equal_operation, result_at}
 use Rattle.ae_clocked.proofs.gates.equal.Goals as goal
 
-pub operate-requires-clause-operands : goal.operate-requires-clause-operands
-operate-requires-clause-operands c = equal_operation _ c.args.a c.args.b c.args.width c.requires.left c.requires.right
+pub operate-requires : goal.operate-requires
+operate-requires c = equal_operation _ c.args.a c.args.b c.args.width c.requires.left c.requires.right
 
 pub returns-clause-words : goal.returns-clause-words
 returns-clause-words c =

@@ -16,7 +16,7 @@ returns-clause-net c = operate_net _ c.add.new.self c.add.result c.args.op c.arg
 
 pub returns-clause-words : goal.returns-clause-words
 returns-clause-words c =
-    operate_words _ c.add.new.self c.add.result c.args.op c.args.args c.args.width c.requires.operands (c.add.ensures.ok, c.add.ensures.added)
+    operate_words _ c.add.new.self c.add.result c.args.op c.args.args c.args.width c.requires (c.add.ensures.ok, c.add.ensures.added)
 
 pub returns-clause-registers : goal.returns-clause-registers
 returns-clause-registers c = omega (arith, counted is_register _ c.add.new.self c.add.result _ c.add.ensures.added c.add.ensures.err)

@@ -32,15 +32,15 @@ loop-i-init c =
     ap (λ (nets : List NetId). nets ++ c.args.x ∷ []) c.new-nets.ensures.items in
     record {
       adds = adds_none _;
-      delays = rw pushed (delays_first _ _ _ c.requires.net);
+      delays = rw pushed (delays_first _ _ _ c.requires);
       long = rw pushed refl;
-      last = delay_none _ _ _ c.requires.net;
+      last = delay_none _ _ _ c.requires;
       registers = omega arith;
       tests = omega arith;
     }
 
-pub delayed-requires-clause-net : goal.delayed-requires-clause-net
-delayed-requires-clause-net c = c.loop-i.invariant.last.net
+pub delayed-requires : goal.delayed-requires
+delayed-requires c = c.loop-i.invariant.last.net
 
 pub returns-in_err-last-clause-adds : goal.returns-in_err-last-clause-adds
 returns-in_err-last-clause-adds c = adds_most c.args.count (omega arith) (adds_trans c.loop-i.invariant.adds c.in_err-last.ensures.adds)

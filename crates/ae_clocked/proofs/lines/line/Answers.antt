@@ -34,7 +34,7 @@ loop-tap-preserved c =
     let net = c.in_ok-nets.ensures.delays.each tap c.index.result.now
     (slice_get_read c.in_ok-nets.nets.items (length c.in_ok-nets.nets.items) tap c.index.result.now refl (omega arith) c.index.ensures) in
     let kept : c.push.new.self.items ≡ c.loop-tap.tapped.items ++ c.index.result.now ∷ [] = c.in_ok-push.ensures.items in
-    rw kept (taps_more _ _ _ _ _ taps _ tap _ c.loop-tap.invariant there (late_taps _ _ _ _ _ _ net))
+    rw kept (taps_more _ _ _ _ _ taps _ tap _ c.loop-tap.invariant there (late_taps _ _ _ _ _ _ (rw c.width_at-width.ensures at net)))
 
 pub index-requires : goal.index-requires
 index-requires c =
@@ -43,14 +43,8 @@ index-requires c =
     let long : length c.in_ok-nets.nets.items ≡ c.greatest.result + 1 = c.in_ok-nets.ensures.long in
     first_of (omega arith, grind arith)
 
-pub chain-requires-clause-low : goal.chain-requires-clause-low
-chain-requires-clause-low c = c.width_at-width.ensures.low
-
-pub chain-requires-clause-high : goal.chain-requires-clause-high
-chain-requires-clause-high c = c.width_at-width.ensures.high
-
-pub chain-requires-clause-net : goal.chain-requires-clause-net
-chain-requires-clause-net c = rw c.width_at-width.ensures.width c.requires.net
+pub chain-requires : goal.chain-requires
+chain-requires c = rw c.width_at-width.ensures c.requires.net
 
 pub loop-tap-init : goal.loop-tap-init
 loop-tap-init c = rw c.new-tapped.ensures.items (taps_none _ _ _ _)
@@ -97,4 +91,4 @@ returns-clause-whole c = c.in_ok-nets.ensures.adds.whole
 pub returns-clause-taps : goal.returns-clause-taps
 returns-clause-taps c =
     let whole = take_all c.loop-tap.tap-index c.args.taps.now c.loop-tap-test.false in
-    rw (← c.width_at-width.ensures.width) (rw whole at c.loop-tap.invariant)
+    rw whole at c.loop-tap.invariant

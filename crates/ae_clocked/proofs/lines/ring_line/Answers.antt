@@ -102,29 +102,11 @@ loop-tap-preserved c =
       taps = rw pushed (taps_more _ _ _ _ _ taps _ tap _ (taps_grow more.adds.grows.extends was.taps) there new);
     }
 
-pub chain-requires-clause-low : goal.chain-requires-clause-low
-chain-requires-clause-low c = c.width_at-width.ensures.low
-
-pub chain-requires-clause-high : goal.chain-requires-clause-high
-chain-requires-clause-high c = c.width_at-width.ensures.high
-
-pub chain-requires-clause-net : goal.chain-requires-clause-net
-chain-requires-clause-net c = rw c.width_at-width.ensures.width c.requires.net
-
-pub far_row-requires-clause-low : goal.far_row-requires-clause-low
-far_row-requires-clause-low c = c.width_at-width.ensures.low
-
-pub far_row-requires-clause-high : goal.far_row-requires-clause-high
-far_row-requires-clause-high c = c.width_at-width.ensures.high
+pub chain-requires : goal.chain-requires
+chain-requires c = rw c.width_at-width.ensures c.requires.net
 
 pub far_row-requires-clause-net : goal.far_row-requires-clause-net
-far_row-requires-clause-net c = net_added c.in_ok-nets.ensures.adds (rw c.width_at-width.ensures.width c.requires.net)
-
-pub tap_at-requires-clause-low : goal.tap_at-requires-clause-low
-tap_at-requires-clause-low c = c.width_at-width.ensures.low
-
-pub tap_at-requires-clause-high : goal.tap_at-requires-clause-high
-tap_at-requires-clause-high c = c.width_at-width.ensures.high
+far_row-requires-clause-net c = net_added c.in_ok-nets.ensures.adds (rw c.width_at-width.ensures c.requires.net)
 
 pub tap_at-requires-clause-near : goal.tap_at-requires-clause-near
 tap_at-requires-clause-near c = λ small.
@@ -263,4 +245,4 @@ returns-clause-keeps c = c.in_ok-links.ensures.keeps
 pub returns-clause-taps : goal.returns-clause-taps
 returns-clause-taps c =
     let whole = take_all c.loop-tap.tap-index c.args.taps.now c.loop-tap-test.false in
-    rw (← c.width_at-width.ensures.width) (rw whole at c.loop-tap.invariant.taps)
+    rw (← c.width_at-width.ensures) (rw whole at c.loop-tap.invariant.taps)

@@ -9,12 +9,12 @@ width_at-width-requires c = own_net c.requires.counter.1.is_net
 
 pub at_word-requires-clause-net : goal.at_word-requires-clause-net
 at_word-requires-clause-net c =
-    let wide : c.width_at-width.result ≡ c.requires.counter.1.width = c.width_at-width.ensures.width ∙ net_width c.requires.counter.1.is_net in
+    let wide : c.width_at-width.result ≡ c.requires.counter.1.width = c.width_at-width.ensures ∙ net_width c.requires.counter.1.is_net in
     rw wide c.requires.counter.1.is_net
 
 pub at_word-requires-clause-fits : goal.at_word-requires-clause-fits
 at_word-requires-clause-fits c =
-    let wide : c.width_at-width.result ≡ c.requires.counter.1.width = c.width_at-width.ensures.width ∙ net_width c.requires.counter.1.is_net in
+    let wide : c.width_at-width.result ≡ c.requires.counter.1.width = c.width_at-width.ensures ∙ net_width c.requires.counter.1.is_net in
     let room : c.args.period ≤ 2 ^ c.requires.counter.1.width = c.requires.counter.1.holds.enough in
     let some : c.args.at < c.args.period = c.requires.begins in
     let small : (c.args.q + (c.args.offset + c.args.period - c.args.at)) % c.args.period < c.args.period = omega arith in

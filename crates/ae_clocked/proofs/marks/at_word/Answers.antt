@@ -14,8 +14,8 @@ returns-clause-words c = λ all k2 run is t l.
     (rw c.from.ensures at (c.in_ok-bound.ensures.words all k1 run is t l))
     (c.in_ok-at.ensures.words all (carries_later _ _ l1 k2) run is t l)
 
-pub constant-requires-clause-fits : goal.constant-requires-clause-fits
-constant-requires-clause-fits c = rw c.from.ensures c.requires.fits
+pub constant-requires : goal.constant-requires
+constant-requires c = rw c.from.ensures c.requires.fits
 
 pub equal-requires-clause-left : goal.equal-requires-clause-left
 equal-requires-clause-left c = net_added c.in_ok-bound.ensures.adds c.requires.net

@@ -27,8 +27,8 @@ choose-requires-clause-left c = c.in_ok-begin.ensures.net
 pub choose-requires-clause-right : goal.choose-requires-clause-right
 choose-requires-clause-right c = net_added c.in_ok-begin.ensures.adds c.requires.net
 
-pub delayed-requires-clause-net : goal.delayed-requires-clause-net
-delayed-requires-clause-net c = c.in_ok-next.ensures.net
+pub delayed-requires : goal.delayed-requires
+delayed-requires c = c.in_ok-next.ensures.net
 
 pub returns-clause-net : goal.returns-clause-net
 returns-clause-net c = c.in_ok-y.ensures.net

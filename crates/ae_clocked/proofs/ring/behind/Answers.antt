@@ -14,8 +14,8 @@ returns-clause-tap c =
     c.in_ok-back.ensures.adds.grows c.in_ok-place.ensures.adds.grows c.look.ensures.adds.grows c.look.ensures.net c.in_ok-back.ensures.words
     c.in_ok-place.ensures.words c.look.ensures.words back c.requires.late
 
-pub constant-requires-clause-fits : goal.constant-requires-clause-fits
-constant-requires-clause-fits c = omega (arith, c.from.ensures, c.ring_depth-all.ensures.holds, c.requires.late)
+pub constant-requires : goal.constant-requires
+constant-requires c = omega (arith, c.from.ensures, c.ring_depth-all.ensures.holds, c.requires.late)
 
 pub sum-requires-clause-left : goal.sum-requires-clause-left
 sum-requires-clause-left c = net_added c.in_ok-back.ensures.adds c.requires.counter

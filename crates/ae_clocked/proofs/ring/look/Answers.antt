@@ -9,8 +9,8 @@ use Rattle.ae_clocked.proofs.Added.{own_net}
 use Rattle.ae_clocked.proofs.Storing.{added_peek, peek_net, peek_words}
 use Rattle.ae_clocked.proofs.ring.look.Goals as goal
 
-pub add-requires-clause-allowed : goal.add-requires-clause-allowed
-add-requires-clause-allowed c =
+pub add-requires : goal.add-requires
+add-requires c =
     let wide : width_of c.args.nl.now.cells c.args.at.0 ≡ c.args.bits = net_width c.requires.place in
     record { depth = 2 ^ c.args.bits; memory = c.requires.memory; address = record { net = own_net c.requires.place; inside = inl (rw wide (omega arith)) } }
 

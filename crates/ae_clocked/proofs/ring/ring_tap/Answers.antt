@@ -20,8 +20,8 @@ returns-in_err-word-clause-registers c = omega (arith, c.in_err-word.ensures.reg
 pub returns-in_err-word-clause-tests : goal.returns-in_err-word-clause-tests
 returns-in_err-word-clause-tests c = c.in_err-word.ensures.tests
 
-pub delayed-requires-clause-net : goal.delayed-requires-clause-net
-delayed-requires-clause-net c = c.in_ok-word.ensures.net
+pub delayed-requires : goal.delayed-requires
+delayed-requires c = c.in_ok-word.ensures.net
 
 pub returns-in_ok-word-clause-adds : goal.returns-in_ok-word-clause-adds
 returns-in_ok-word-clause-adds c = adds_trans c.in_ok-word.ensures.adds c.delayed.ensures.adds

@@ -12,4 +12,4 @@ returns-clause-tap c = λ rst.
     let net = c.in_ok-nets.ensures.delays.each c.args.delay c.index.result.now
     (slice_get_read c.in_ok-nets.nets.items (length c.in_ok-nets.nets.items) c.args.delay c.index.result.now refl
     (omega (arith, c.in_ok-nets.ensures.long)) c.index.ensures) in
-    rw (← c.width_at-width.ensures.width) (late_taps _ _ _ _ _ _ net)
+    rw (← c.width_at-width.ensures) (late_taps _ _ _ _ _ _ net)

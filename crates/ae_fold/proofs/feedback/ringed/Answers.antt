@@ -11,8 +11,8 @@ use Rattle.ae_fold.proofs.feedback.ringed.Goals as goal
 pub store-requires-clause-place : goal.store-requires-clause-place
 store-requires-clause-place c = c.requires.place.net
 
-pub constant-requires-clause-fits : goal.constant-requires-clause-fits
-constant-requires-clause-fits c = omega (arith, c.from.ensures, c.ring_depth-places.ensures.holds, c.requires.late)
+pub constant-requires : goal.constant-requires
+constant-requires c = omega (arith, c.from.ensures, c.ring_depth-places.ensures.holds, c.requires.late)
 
 pub sum-requires-clause-left : goal.sum-requires-clause-left
 sum-requires-clause-left c =
@@ -28,8 +28,8 @@ look-requires-clause-memory c =
 pub look-requires-clause-place : goal.look-requires-clause-place
 look-requires-clause-place c = c.in_ok-place.ensures.net
 
-pub delayed-requires-clause-net : goal.delayed-requires-clause-net
-delayed-requires-clause-net c = c.in_ok-word.ensures.net
+pub delayed-requires : goal.delayed-requires
+delayed-requires c = c.in_ok-word.ensures.net
 
 pub returns-in_err-memory-clause-adds : goal.returns-in_err-memory-clause-adds
 returns-in_err-memory-clause-adds c = memories_most 6 1 (omega arith) (omega arith) c.in_err-memory.ensures.adds

@@ -4,7 +4,7 @@ use Rattle.ae_fold.proofs.Feeding.{trail_more, trail_none}
 use Rattle.ae_fold.proofs.feedback.trail.Goals as goal
 
 pub loop-i-init : goal.loop-i-init
-loop-i-init c = record { adds = adds_none _; net = c.requires.net; words = trail_none _ _ }
+loop-i-init c = record { adds = adds_none _; net = c.requires; words = trail_none _ _ }
 
 pub loop-i-preserved : goal.loop-i-preserved
 loop-i-preserved c =

@@ -18,14 +18,14 @@ returns-clause-adds c = adds_trans c.in_ok-bound.ensures.adds c.less.ensures.add
 pub width_at-width-requires : goal.width_at-width-requires
 width_at-width-requires c = own_net c.requires.phase.counts.is_net
 
-pub constant-requires-clause-fits : goal.constant-requires-clause-fits
-constant-requires-clause-fits c =
-    let width = c.width_at-width.ensures.width ∙ net_width c.requires.phase.counts.is_net in
+pub constant-requires : goal.constant-requires
+constant-requires c =
+    let width = c.width_at-width.ensures ∙ net_width c.requires.phase.counts.is_net in
     let enough : c.args.phase.period ≤ 2 ^ c.width_at-width.result = rw width c.requires.phase.counts.holds.enough in
     omega (arith, c.from.ensures)
 
 pub less-requires-clause-left : goal.less-requires-clause-left
-less-requires-clause-left c = net_later c.in_ok-bound.ensures.adds.grows.extends (rw c.width_at-width.ensures.width (own_net c.requires.phase.counts.is_net))
+less-requires-clause-left c = net_later c.in_ok-bound.ensures.adds.grows.extends (rw c.width_at-width.ensures (own_net c.requires.phase.counts.is_net))
 
 pub returns-clause-marks : goal.returns-clause-marks
 returns-clause-marks c =

@@ -25,10 +25,10 @@ pub width_at-width-requires : goal.width_at-width-requires
 width_at-width-requires c = own_net c.requires.phase.counts.is_net
 
 pub low_bits-requires-clause-net : goal.low_bits-requires-clause-net
-low_bits-requires-clause-net c = rw c.width_at-width.ensures.width (own_net c.requires.phase.counts.is_net)
+low_bits-requires-clause-net c = rw c.width_at-width.ensures (own_net c.requires.phase.counts.is_net)
 
-pub constant-requires-clause-fits : goal.constant-requires-clause-fits
-constant-requires-clause-fits c = omega (arith, c.from.ensures, c.requires.within, c.requires.enough)
+pub constant-requires : goal.constant-requires
+constant-requires c = omega (arith, c.from.ensures, c.requires.within, c.requires.enough)
 
 pub less-requires-clause-left : goal.less-requires-clause-left
 less-requires-clause-left c = net_later c.in_ok-bound.ensures.adds.grows.extends c.in_ok-shown.ensures.net

@@ -5,8 +5,8 @@ use Rattle.ae_clocked.proofs.Adding.{always}
 use Rattle.ae_clocked.proofs.Added.{result_at}
 use Rattle.ae_gather.proofs.column.low_bits.Goals as goal
 
-pub operate-requires-clause-operands : goal.operate-requires-clause-operands
-operate-requires-clause-operands c =
+pub operate-requires : goal.operate-requires
+operate-requires c =
     let own = rw (← (net_width c.requires.net)) at c.requires.net in
     record { unsigned = refl; range = (c.requires.low, c.requires.high); operands = (own, own, own); result = refl }
 

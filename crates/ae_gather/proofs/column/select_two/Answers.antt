@@ -11,8 +11,8 @@ use Rattle.ae_gather.proofs.column.select_two.Goals as goal
 abbrev no_step : Step
 no_step = record { from = 0; take = Delayed 0 0; tap = 0 }
 
-pub source-requires-clause-ready : goal.source-requires-clause-ready
-source-requires-clause-ready c = c.requires.ready.ready 0 _ (slice_get-get_or c.args.steps.now 0 no_step (omega (arith, c.requires.two)))
+pub source-requires : goal.source-requires
+source-requires c = c.requires.ready.ready 0 _ (slice_get-get_or c.args.steps.now 0 no_step (omega (arith, c.requires.two)))
 
 pub returns-in_err-first-clause-belongs : goal.returns-in_err-first-clause-belongs
 returns-in_err-first-clause-belongs c = belongs_grows _ _ _ c.in_err-first.ensures.adds.grows c.requires.belongs

@@ -20,7 +20,7 @@ pub returns-clause-adds : goal.returns-clause-adds
 returns-clause-adds c = adds_trans c.in_ok-counter.ensures.adds c.in_ok-y.ensures.adds
 
 pub hold-requires-clause-net : goal.hold-requires-clause-net
-hold-requires-clause-net c = rw c.width_at-width.ensures.width (own_net (net_later c.in_ok-counter.ensures.adds.grows.extends c.requires.net))
+hold-requires-clause-net c = rw c.width_at-width.ensures (own_net (net_later c.in_ok-counter.ensures.adds.grows.extends c.requires.net))
 
 pub hold-requires-clause-counter : goal.hold-requires-clause-counter
 hold-requires-clause-counter c = (c.args.clocks.now.rst, c.in_ok-counter.ensures.counts)
@@ -42,7 +42,7 @@ returns-clause-keeps c =
 pub returns-clause-held : goal.returns-clause-held
 returns-clause-held c =
     let t : ℕ = c.args.period in
-    let wide : c.width_at-width.result ≡ width_of c.args.nl.now.cells c.args.x.0 = c.width_at-width.ensures.width ∙
+    let wide : c.width_at-width.result ≡ width_of c.args.nl.now.cells c.args.x.0 = c.width_at-width.ensures ∙
     net_width (net_later c.in_ok-counter.ensures.adds.grows.extends c.requires.net) in
     let low : c.args.d % t < t = mod_below c.args.d t (omega arith) in
     let sum : c.args.clock + (t - c.args.d % t) ≡ c.args.clock + t - c.args.d % t = omega arith in

@@ -8,7 +8,7 @@ use Rattle.ae_gather.proofs.HeldLaw.{kept_is}
 use Rattle.ae_gather.proofs.holding.kept.Goals as goal
 
 pub equal-requires-clause-left : goal.equal-requires-clause-left
-equal-requires-clause-left c = rw c.width_at-bits.ensures.width (net_added c.in_ok-begin.ensures.adds c.requires.counter)
+equal-requires-clause-left c = rw c.width_at-bits.ensures (net_added c.in_ok-begin.ensures.adds c.requires.counter)
 
 pub choose-requires-clause-condition : goal.choose-requires-clause-condition
 choose-requires-clause-condition c = net_added c.in_ok-y.ensures.adds c.in_ok-begins.ensures.net
@@ -74,8 +74,8 @@ pub returns-in_err-next-clause-adds : goal.returns-in_err-next-clause-adds
 returns-in_err-next-clause-adds c =
     adds_trans (adds_trans (adds_trans c.in_ok-begin.ensures.adds c.in_ok-begins.ensures.adds) c.in_ok-y.ensures.adds) c.in_err-next.ensures.adds
 
-pub constant-requires-clause-fits : goal.constant-requires-clause-fits
-constant-requires-clause-fits c = rw (c.from.ensures, c.width_at-bits.ensures.width) c.requires.fits
+pub constant-requires : goal.constant-requires
+constant-requires c = rw (c.from.ensures, c.width_at-bits.ensures) c.requires.fits
 
 pub returns-clause-counted : goal.returns-clause-counted
 returns-clause-counted c = record {

@@ -32,7 +32,7 @@ ring_read-requires-clause-memory c =
     let there : slice_get c.args.rings.now c.in-Some.x ≡ Some (Some c.in-Some-rings.ring) = slice_get-get_or c.args.rings.now c.in-Some.x None
     (omega (arith, c.if-at-rings.false)) ∙ ap Some c.in-Some-rings.is in
     let h = c.requires.rings.1.each c.in-Some.x c.in-Some-rings.ring there in
-    let wide : c.width_at-width.result ≡ h.width = c.width_at-width.ensures.width ∙ net_width h.net in
+    let wide : c.width_at-width.result ≡ h.width = c.width_at-width.ensures ∙ net_width h.net in
     rw (h.wide, wide) h.memory
 
 pub ring_read-requires-clause-counter : goal.ring_read-requires-clause-counter
@@ -54,7 +54,7 @@ returns-clause-reads c = λ rst rings.
     let there : slice_get c.args.rings.now c.in-Some.x ≡ Some (Some c.in-Some-rings.ring) = slice_get-get_or c.args.rings.now c.in-Some.x None
     (omega (arith, c.if-at-rings.false)) ∙ ap Some c.in-Some-rings.is in
     let h = rings.each c.in-Some.x c.in-Some-rings.ring there in
-    let wide : c.width_at-width.result ≡ h.width = c.width_at-width.ensures.width ∙ net_width h.net in
+    let wide : c.width_at-width.result ≡ h.width = c.width_at-width.ensures ∙ net_width h.net in
     record {
       net = (c.width_at-width.result, c.in_ok-y.ensures.net);
       words = λ x from on.

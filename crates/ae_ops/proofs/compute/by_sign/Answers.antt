@@ -6,8 +6,8 @@ use Rattle.ae_clocked.proofs.Added.{back, grows_length}
 use Rattle.ae_ops.proofs.SignWords.{chosen, half_fits}
 use Rattle.ae_ops.proofs.compute.by_sign.Goals as goal
 
-pub constant-requires-clause-fits : goal.constant-requires-clause-fits
-constant-requires-clause-fits c = rw c.half.ensures (half_fits c.args.width c.requires.low)
+pub constant-requires : goal.constant-requires
+constant-requires c = rw c.half.ensures (half_fits c.args.width c.limits.ensures.0)
 
 pub less-requires-clause-left : goal.less-requires-clause-left
 less-requires-clause-left c = net_added c.in_ok-middle.ensures.adds c.requires.net
@@ -18,12 +18,6 @@ on_one-requires-clause-net c = net_added c.in_ok-positive.ensures.adds (net_adde
 pub complemented-requires-clause-net : goal.complemented-requires-clause-net
 complemented-requires-clause-net c =
     net_added c.in_ok-made.ensures.adds (net_added c.in_ok-positive.ensures.adds (net_added c.in_ok-middle.ensures.adds c.requires.net))
-
-pub choose-requires-clause-low : goal.choose-requires-clause-low
-choose-requires-clause-low c = rw c.result_width.ensures c.requires.to_low
-
-pub choose-requires-clause-high : goal.choose-requires-clause-high
-choose-requires-clause-high c = rw c.result_width.ensures c.requires.to_high
 
 pub choose-requires-clause-condition : goal.choose-requires-clause-condition
 choose-requires-clause-condition c = net_added c.in_ok-turned.ensures.adds (net_added c.in_ok-made.ensures.adds c.in_ok-positive.ensures.net)

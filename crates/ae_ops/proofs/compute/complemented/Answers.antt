@@ -6,12 +6,6 @@ use Rattle.ae_clocked.proofs.Added.{back, grows_length}
 use Rattle.ae_ops.proofs.SignWords.{complement_is}
 use Rattle.ae_ops.proofs.compute.complemented.Goals as goal
 
-pub on_one-requires-3-clause-low : goal.on_one-requires-3-clause-low
-on_one-requires-3-clause-low c = rw c.result_width.ensures c.requires.to_low
-
-pub on_one-requires-3-clause-high : goal.on_one-requires-3-clause-high
-on_one-requires-3-clause-high c = rw c.result_width.ensures c.requires.to_high
-
 pub on_one-requires-3-clause-net : goal.on_one-requires-3-clause-net
 on_one-requires-3-clause-net c = rw c.result_width.ensures c.in_ok-made.ensures.net
 

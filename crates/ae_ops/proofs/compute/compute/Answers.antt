@@ -9,14 +9,8 @@ use Rattle.ae_clocked.proofs.Added.{result_at}
 use Rattle.ae_ops.proofs.Computing.{cast_words, most_of, operation_of, pair_operands, passed_with, refused_with, result_high, result_low, sar_words, unchanged_of}
 use Rattle.ae_ops.proofs.compute.compute.Goals as goal
 
-pub operate-requires-clause-low : goal.operate-requires-clause-low
-operate-requires-clause-low c = rw c.result_width.ensures (result_low c.args.op c.args.width c.requires.range c.requires.low)
-
-pub operate-requires-clause-high : goal.operate-requires-clause-high
-operate-requires-clause-high c = rw c.result_width.ensures (result_high c.args.op c.args.width c.requires.range c.requires.high)
-
-pub operate-requires-clause-operands : goal.operate-requires-clause-operands
-operate-requires-clause-operands c =
+pub operate-requires : goal.operate-requires
+operate-requires c =
     let plain : is_signed c.args.op ≡ false = grind (arith, c.in-Add.is) in
     rw c.result_width.ensures (operation_of _ _ _ c.args.width plain c.requires.range c.requires.operands)
 

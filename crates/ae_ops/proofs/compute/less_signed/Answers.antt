@@ -7,8 +7,8 @@ use Rattle.ae_ops.proofs.Computing.{held_fits}
 use Rattle.ae_ops.proofs.SignWords.{half_fits, raised_less}
 use Rattle.ae_ops.proofs.compute.less_signed.Goals as goal
 
-pub constant-requires-clause-fits : goal.constant-requires-clause-fits
-constant-requires-clause-fits c = rw c.half.ensures (half_fits c.args.width c.requires.low)
+pub constant-requires : goal.constant-requires
+constant-requires c = rw c.half.ensures (half_fits c.args.width c.limits.ensures.0)
 
 pub sum-requires-clause-left : goal.sum-requires-clause-left
 sum-requires-clause-left c = net_added c.in_ok-middle.ensures.adds c.requires.left
@@ -51,7 +51,7 @@ returns-clause-words c = λ all k4 run is t l.
     let k3 = back g4 k4 in
     let k2 = back g3 k3 in
     let k1 = back g2 k2 in
-    raised_less c.args.width _ _ 0 _ _ _ _ c.requires.low
+    raised_less c.args.width _ _ 0 _ _ _ _ c.limits.ensures.0
     (held_fits all run t c.args.a.0 c.args.width is l (k1.nets _ _ (net_added c.in_ok-middle.ensures.adds c.requires.left)))
     (held_fits all run t c.args.b.0 c.args.width is l (k1.nets _ _ (net_added c.in_ok-middle.ensures.adds c.requires.right)))
     (c.in_ok-middle.ensures.words all k1 run is t l ∙ c.half.ensures)

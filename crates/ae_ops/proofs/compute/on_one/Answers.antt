@@ -4,8 +4,8 @@ use Rattle.ae_clocked.proofs.Added.{result_at}
 use Rattle.ae_ops.proofs.Computing.{one_main, one_operands, operation_of}
 use Rattle.ae_ops.proofs.compute.on_one.Goals as goal
 
-pub operate-requires-clause-operands : goal.operate-requires-clause-operands
-operate-requires-clause-operands c =
+pub operate-requires : goal.operate-requires
+operate-requires c =
     rw c.result_width.ensures
     (operation_of _ _ _ c.args.width c.requires.unsigned c.requires.range
     (one_operands c.args.op (IsNet c.args.nl.now.cells) c.args.a c.args.width c.requires.one c.requires.net))

@@ -8,8 +8,8 @@ use Rattle.ae_ops.proofs.Computing.{pair_operands, refused_with}
 use Rattle.ae_ops.proofs.Squares.{at_once, square_words, sum_words}
 use Rattle.ae_ops.proofs.make.make.Goals as goal
 
-pub square-requires-clause-net : goal.square-requires-clause-net
-square-requires-clause-net c = (pair_operands Mul (IsNet c.args.nl.now.cells) c.args.args c.args.width refl (rw c.in-Mul.is at c.requires.operands)).0
+pub square-requires : goal.square-requires
+square-requires c = (pair_operands Mul (IsNet c.args.nl.now.cells) c.args.args c.args.width refl (rw c.in-Mul.is at c.requires.operands)).0
 
 pub returns-in_err-net-in-Mul-clause-err : goal.returns-in_err-net-in-Mul-clause-err
 returns-in_err-net-in-Mul-clause-err c = refused_with _ c.in_err-net-in-Mul.ensures.err

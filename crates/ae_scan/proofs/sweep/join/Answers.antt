@@ -22,8 +22,8 @@ returns-in_ok-later-clause-join c =
     join_one _ _ c.args.fold c.args.nets.now c.args.q c.args.reach _ c.in_ok-later.later c.if-q-reach.true refl c.in_ok-later.ensures.net
     c.in_ok-later.ensures.words
 
-pub delayed-requires-clause-net : goal.delayed-requires-clause-net
-delayed-requires-clause-net c = c.requires.own
+pub delayed-requires : goal.delayed-requires
+delayed-requires c = c.requires.own
 
 pub returns-in_err-later-clause-up : goal.returns-in_err-later-clause-up
 returns-in_err-later-clause-up c = adds_up 9 (omega arith) c.in_err-later.ensures.adds

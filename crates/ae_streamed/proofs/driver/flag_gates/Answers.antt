@@ -7,8 +7,8 @@ use Rattle.ae_streamed.proofs.driver.flag_gates.Goals as goal
 pub loop-j-init : goal.loop-j-init
 loop-j-init c = flags_none c.args.nl.now c.args.reset c.args.at
 
-pub choices-requires-clause-fit : goal.choices-requires-clause-fit
-choices-requires-clause-fit c =
+pub choices-requires : goal.choices-requires
+choices-requires c =
     rw c.flag-before.ensures
     (flag_fits c.args.nl.now c.loop-j.nl c.args.reset c.args.at c.loop-j.j c.loop-j.invariant c.requires.here
     (omega (arith, c.loop-j-test.true)) c.requires.reset c.requires.own c.requires.gates)

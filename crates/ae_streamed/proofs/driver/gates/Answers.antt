@@ -2,8 +2,8 @@
 use Rattle.ae_streamed.proofs.Tables.{gates_fit}
 use Rattle.ae_streamed.proofs.driver.gates.Goals as goal
 
-pub choices-requires-clause-fit : goal.choices-requires-clause-fit
-choices-requires-clause-fit c = rw c.flag-newest.ensures (gates_fit c.args.nl.now.cells c.args.w c.args.at c.args.busy c.requires.here c.requires.bits)
+pub choices-requires : goal.choices-requires
+choices-requires c = rw c.flag-newest.ensures (gates_fit c.args.nl.now.cells c.args.w c.args.at c.args.busy c.requires.here c.requires.bits)
 
 pub returns-clause-added : goal.returns-clause-added
 returns-clause-added c = rw c.flag-newest.ensures at c.in_ok-choices.ensures.added

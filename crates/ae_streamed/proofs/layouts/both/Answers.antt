@@ -4,8 +4,8 @@ use Rattle.ae_netlist.specs.Circuit.{width_of}
 use Rattle.ae_clocked.proofs.Adding.{adds_same}
 use Rattle.ae_streamed.proofs.layouts.both.Goals as goal
 
-pub operate-requires-clause-operands : goal.operate-requires-clause-operands
-operate-requires-clause-operands c = and_operation c.args.nl.now.cells c.args.a c.args.b c.requires.left c.requires.right
+pub operate-requires : goal.operate-requires
+operate-requires c = and_operation c.args.nl.now.cells c.args.a c.args.b c.requires.left c.requires.right
 
 pub returns-clause-told : goal.returns-clause-told
 returns-clause-told c = λ rst f g p q.

@@ -24,8 +24,8 @@ loop-k-init c = record {
 pub overflow_add-first : goal.overflow_add-first
 overflow_add-first c = omega (arith, net_within (c.requires.bits c.loop-k.k c.loop-k-test.true), longer_length c.loop-k.invariant.longer)
 
-pub choices-requires-clause-fit : goal.choices-requires-clause-fit
-choices-requires-clause-fit c =
+pub choices-requires : goal.choices-requires
+choices-requires c =
     let later = c.loop-k.invariant.longer.extends in
     fit c.loop-k.nl.cells 1 _ (before (record {
       condition = inl (net_later later (c.requires.bits c.loop-k.k c.loop-k-test.true));

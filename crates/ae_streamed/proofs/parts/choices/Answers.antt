@@ -7,10 +7,10 @@ use Rattle.ae_streamed.specs.Cells.{choice}
 use Rattle.ae_streamed.proofs.Cells.{choice_allowed, found_at}
 use Rattle.ae_streamed.proofs.parts.choices.Goals as goal
 
-pub add-requires-clause-allowed : goal.add-requires-clause-allowed
-add-requires-clause-allowed c =
+pub add-requires : goal.add-requires
+add-requires c =
     let e = ap (λ (v : Circuit). v.cells) c.loop-k.invariant.added in
-    rw e (choice_allowed c.args.nl.now.cells c.args.width c.args.gates.now c.loop-k.k (get_or c.args.gates.now c.loop-k.k []) c.requires.fit
+    rw e (choice_allowed c.args.nl.now.cells c.args.width c.args.gates.now c.loop-k.k (get_or c.args.gates.now c.loop-k.k []) c.requires
     (found_at c.args.gates.now c.loop-k.k [] (omega (arith, c.loop-k.invariant.all))))
 
 pub returns-in_err-add-clause-full : goal.returns-in_err-add-clause-full

@@ -4,11 +4,11 @@ use Rattle.std.proofs.Common.{Err, arith, ap}
 use Rattle.ae_streamed.proofs.Queueing.{column_fits, column_is, column_long, column_longer, longer_one, next_net3, next_net4, register3, register4}
 use Rattle.ae_streamed.proofs.queues.column.Goals as goal
 
-pub choices-requires-clause-fit : goal.choices-requires-clause-fit
-choices-requires-clause-fit c =
+pub choices-requires : goal.choices-requires
+choices-requires c =
     column_fits c.args.nl.now c.state.new.self c.state-2.new.self c.args.c c.args.made c.width_at-width.result c.len-at.result c.len-at.ensures
     c.in_ok-state.ensures.added c.in_ok-state-2.ensures.added c.requires.two c.requires.moves
-    (rw c.width_at-width.ensures.width c.requires.net)
+    (rw c.width_at-width.ensures c.requires.net)
 
 pub connect-requires-clause-register : goal.connect-requires-clause-register
 connect-requires-clause-register c =

@@ -6,28 +6,12 @@ use Rattle.std.proofs.Common.{length}
 use Rattle.ae_streamed.proofs.Remade.{begun_fits, begun_more, begun_other, may_add, memory_begun, memory_deep, register_begun}
 use Rattle.ae_streamed.proofs.room.begin_cell.Goals as goal
 
-pub state-requires-clause-low : goal.state-requires-clause-low
-state-requires-clause-low c =
-    (begun_fits c.args.nl.now.cells c.args.new.now.cells c.args.n c.cell_at-sized.result c.formed.ensures.cells c.cell_at-sized.ensures c.requires.begun).low
-
-pub state-requires-clause-high : goal.state-requires-clause-high
-state-requires-clause-high c =
-    (begun_fits c.args.nl.now.cells c.args.new.now.cells c.args.n c.cell_at-sized.result c.formed.ensures.cells c.cell_at-sized.ensures c.requires.begun).high
-
 pub returns-in_ok-state-in-Reg-clause-begun : goal.returns-in_ok-state-in-Reg-clause-begun
 returns-in_ok-state-in-Reg-clause-begun c =
     begun_more c.args.nl.now.cells c.args.new.now.cells c.state.new.self.cells c.args.n c.cell_at-sized.result
     (new_register (length c.args.new.now.cells) c.cell_at-sized.result.width) c.cell_at-sized.ensures c.requires.begun
     (register_begun c.cell_at-sized.result _ c.args.n (length c.args.new.now.cells) c.in-Reg.is c.requires.begun.long)
     (ap (λ (v : Circuit). v.cells) c.in_ok-state-in-Reg.ensures.added)
-
-pub memory-requires-clause-low : goal.memory-requires-clause-low
-memory-requires-clause-low c =
-    (begun_fits c.args.nl.now.cells c.args.new.now.cells c.args.n c.cell_at-sized.result c.formed.ensures.cells c.cell_at-sized.ensures c.requires.begun).low
-
-pub memory-requires-clause-high : goal.memory-requires-clause-high
-memory-requires-clause-high c =
-    (begun_fits c.args.nl.now.cells c.args.new.now.cells c.args.n c.cell_at-sized.result c.formed.ensures.cells c.cell_at-sized.ensures c.requires.begun).high
 
 pub memory-requires-clause-some : goal.memory-requires-clause-some
 memory-requires-clause-some c =
@@ -50,13 +34,9 @@ pub add-requires : goal.add-requires
 add-requires c =
     let fits = begun_fits c.args.nl.now.cells c.args.new.now.cells c.args.n c.cell_at-sized.result c.formed.ensures.cells c.cell_at-sized.ensures
     c.requires.begun in
-    record {
-      low = fits.low;
-      high = fits.high;
-      allowed = may_add c.args.nl.now.cells c.args.new.now.cells c.args.n c.cell_at-sized.result.width c.cell_at-sized.result.cell
-          (λ next e. grind (arith, c.in-Input.is, e))
-          (λ depth at next enable e. grind (arith, c.in-Input.is, e)) fits.cell;
-    }
+    may_add c.args.nl.now.cells c.args.new.now.cells c.args.n c.cell_at-sized.result.width c.cell_at-sized.result.cell
+    (λ next e. grind (arith, c.in-Input.is, e))
+    (λ depth at next enable e. grind (arith, c.in-Input.is, e)) fits.cell
 
 pub returns-in_ok-add-in-Input : goal.returns-in_ok-add-in-Input
 returns-in_ok-add-in-Input c = record {

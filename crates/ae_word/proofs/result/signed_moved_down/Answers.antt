@@ -16,4 +16,4 @@ below w a k h l =
 pub returns-then-is_negative : goal.returns-then-is_negative
 returns-then-is_negative c =
     let high : 2 ^ (c.args.width - 1) ≤ c.args.a = grind (arith, nat_tests) in
-    rw (c.complement-then-is_negative.ensures, c.moved_down.ensures, c.complement.ensures) (below c.args.width c.args.a c.args.by high c.requires.fits)
+    rw (c.complement-then-is_negative.ensures, c.moved_down.ensures, c.complement.ensures) (below c.args.width c.args.a c.args.by high c.requires)

@@ -24,7 +24,7 @@ far_tap-requires-clause-links c =
     let own = c.requires.holds.1.each c.args.x.0 c.in-Some.row.now (sym c.in-Some.ensures) in
     let same = same_Some there.0 c.in-Some.row.now (sym there.1 ∙ sym c.in-Some.ensures) in
     let l : c.args.delay ≤ c.in-Some.row.now.reach = rw (← same) there.2 in
-    let wide : c.width_at-width.result ≡ own.width = c.width_at-width.ensures.width ∙ net_width own.net in
+    let wide : c.width_at-width.result ≡ own.width = c.width_at-width.ensures ∙ net_width own.net in
     (c.requires.holds.0, c.args.x.0, c.in-Some.row.now.reach, rw (c.deref.ensures.value, wide) own.links, l)
 
 pub unreachable-requires : goal.unreachable-requires
@@ -33,4 +33,4 @@ unreachable-requires c = none-some _ (c.in-None.ensures ∙ c.requires.there.1)
 pub returns-clause-tap : goal.returns-clause-tap
 returns-clause-tap c =
     row_taps c.far_tap.result c.args.self.now c.args.x.0 c.in-Some.row.now _ _ _ _ _
-    (sym c.in-Some.ensures) c.deref.ensures.value c.width_at-width.ensures.width c.far_tap.ensures.tap
+    (sym c.in-Some.ensures) c.deref.ensures.value c.width_at-width.ensures c.far_tap.ensures.tap

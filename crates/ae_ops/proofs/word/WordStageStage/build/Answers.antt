@@ -67,6 +67,6 @@ returns-clause-law c =
     let tap = rw c.latency.ensures at (c.in_ok-tapped.ensures.taps.each 0 (c.latency.result - c.in_ok-made.made.late) c.tap.result refl c.tap.ensures) in
     rw (← c.self.view_is)
     (word_answers _ _ _ c.self.inside.width c.self.inside.period c.self.inside.op c.args.ins.now c.tap.result c.one.result c.one.ensures.ok
-    c.self.invariant.3 (bundles_grow _ _ _ _ later (rw (← c.self.view_is) at c.requires.bundles))
+    c.self.invariant.1 (bundles_grow _ _ _ _ later (rw (← c.self.view_is) at c.requires.bundles))
     (computed c.make.new.nl c.line.new.nl _ _ _ _ c.in_ok-made.made.late _ (operands_of c.self.inside.op c.args.ins.now) c.in_ok-made.made.net c.tap.result
     c.in_ok-made.ensures.late c.in_ok-tapped.ensures.grows (rw c.operands-args.ensures at c.in_ok-made.ensures.words) tap))
