@@ -1,5 +1,5 @@
 -- What a statement makes of what is next, from what its parts make of it.
-use Rattle.std.proofs.Common.{ℕ, ◌≡◌, ◌==◌, ◌&&◌, ◌+◌, ◌*◌, ◌≤◌, Bool, not, List, length, Option, Some, Result, Ok, Err, OnOk, arith}
+use Rattle.std.proofs.Common.{ℕ, ◌==◌, ◌&&◌, ◌+◌, ◌*◌, ◌≤◌, Bool, not, List, length, Option, Some, Result, Ok, Err, OnOk, arith}
 use Rattle.ae_word.specs.WordTable.{bit}
 use Rattle.ae_netlist.specs.declared.cell.NetId.{NetId}
 use Rattle.ae_netlist.specs.Circuit.{Circuit}

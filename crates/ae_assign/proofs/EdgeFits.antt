@@ -4,10 +4,9 @@ use Rattle.std.specs.Prelude.{slice_set}
 use Rattle.std.proofs.lemmas.Option.{slice_get_within}
 use Rattle.ae_netlist.specs.declared.cell.NetId.{NetId}
 use Rattle.ae_netlist.specs.declared.cell.SizedCell.{SizedCell}
-use Rattle.ae_netlist.specs.Circuit.{Circuit, IsNet, IsAddress, IsWritten}
-use Rattle.ae_netlist.specs.Circuit.{width_of as net_width_of}
+use Rattle.ae_netlist.specs.Circuit.{Circuit, IsNet, IsAddress}
 use Rattle.ae_netlist.specs.Runs.{Clock, word_at, store_at}
-use Rattle.ae_netlist.proofs.Growing.{Keeps, keeps_extends, net_width, address_later, written_later}
+use Rattle.ae_netlist.proofs.Growing.{Keeps, keeps_extends, address_later, written_later}
 use Rattle.ae_netlist.proofs.Gets.{get_left, get_set_other}
 use Rattle.ae_vread.specs.declared.module.NetKind.{NetKind}
 use Rattle.ae_vread.specs.declared.module.NetKind.TheVariants.{Input, Wire, OutWire, Reg, OutReg, Memory}

@@ -1,5 +1,5 @@
 -- The nets of wires, one equation after the other.
-use Rattle.std.proofs.Common.{ℕ, zero, suc, ◌≡◌, ◌+◌, ◌<◌, ◌≤◌, inl, inr, true, false, List, [], ◌∷◌, length, set, replicate, Option, Some, None, slice_get, arith, refl, sym, ap, ◌∙◌, subst, length-set}
+use Rattle.std.proofs.Common.{ℕ, zero, suc, ◌≡◌, ◌+◌, ◌≤◌, inl, inr, true, false, List, [], ◌∷◌, length, set, replicate, Option, Some, None, slice_get, arith, refl, sym, ap, ◌∙◌, subst, length-set}
 use Rattle.std.specs.List.{sum_by}
 use Rattle.std.proofs.lemmas.List.Sums.{sum_by-cons}
 use Rattle.std.proofs.lemmas.Bool.{cases_Bool, cases_eq, both_ways}
@@ -29,7 +29,6 @@ use Rattle.ae_order.proofs.DriveLaws.{value_driven, value_equation}
 use Rattle.ae_order.proofs.SoundOf.{named_of, place_is}
 use Rattle.ae_gates.proofs.Words.{word_grows}
 use Rattle.ae_express.proofs.NetLaws.{nets_grow}
-use Rattle.ae_judge.proofs.PlaceLemmas.{get_within as some_at}
 
 -- an expression is ready where each of its names is
 pub ready_for : (ns : List NetTree) (nets : List (Option NetId)) (e : ExprTree) → ((n : List ℕ) → Among n (names_in e) → IsReady ns nets n)

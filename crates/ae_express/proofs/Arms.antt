@@ -1,5 +1,5 @@
 -- The value of each form of expression, from those of its parts.
-use Rattle.std.proofs.Common.{ℕ, ◌≡◌, ◌==◌, ◌≤◌, if◌then◌else◌, true, List, [], ◌∷◌, length, get_or, map, Option, Result, IfOk, refl, sym, ap, ◌∙◌, arith}
+use Rattle.std.proofs.Common.{ℕ, ◌≡◌, ◌==◌, ◌≤◌, if◌then◌else◌, true, List, [], ◌∷◌, length, get_or, Option, Result, IfOk, refl, sym, ap, ◌∙◌, arith}
 use Rattle.std.proofs.lemmas.Bool.{cond-true}
 use Rattle.ae_word.specs.declared.op.WordOp.TheVariants as op
 use Rattle.ae_word.specs.WordTable.{bit, word_result}

@@ -12,11 +12,10 @@ use Rattle.ae_netlist.proofs.Growing.{Keeps, keeps_extends, net_width, extends_a
 use Rattle.ae_vread.specs.declared.module.NetKind.{NetKind}
 use Rattle.ae_vread.specs.declared.module.NetKind.TheVariants.{Input, Wire, OutWire, Reg, OutReg, Memory}
 use Rattle.ae_vread.specs.ModuleTree.{NetTree, index, place}
-use Rattle.ae_judge.specs.Names.{net_named, is_memory_name, is_memory_kind, passes, depth_of, depth_in, depth_of_kind}
+use Rattle.ae_judge.specs.Names.{is_memory_name, is_memory_kind, passes, depth_of, depth_in, depth_of_kind}
 use Rattle.ae_judge.specs.Widths.{declared_width}
 use Rattle.ae_runs.specs.Values.{ModuleClock, value_at}
 use Rattle.ae_gates.specs.Cells.{Grows, IsWord}
-use Rattle.ae_runs.proofs.Declared.{named_net}
 use Rattle.ae_order.proofs.SoundLaws.{named_width}
 use Rattle.ae_runs.specs.Named.{AreNamed, AreNets, IsNamed, StandsFor, place_of}
 

@@ -11,3 +11,4 @@ pub mod Blocks
 pub mod Bundles
 pub mod Ending
 pub mod Planning
+pub mod Building

@@ -2,6 +2,7 @@
 #![tactic(auto)]
 
 mod feedback;
+mod fold;
 mod loops;
 mod marks;
 mod plan;
@@ -9,8 +10,9 @@ mod slots;
 mod words;
 
 pub use feedback::joined;
+pub use fold::Fold;
 pub use loops::copied;
 pub use marks::{SlotMark, mark};
-pub use plan::{Plan, is_fold, levels, plan_of};
+pub use plan::{Plan, levels};
 pub use slots::over_slots;
 pub use words::{WordFold, word_folds};

@@ -12,6 +12,7 @@ ghost use Rattle.ae_flow.specs.Flow.{first_width};
 ghost use Rattle.ae_flow.specs.Fitted.{FitsMove, IsArranged, IsOneOf};
 
 use ae_delay::origins;
+use ae_fold::Fold;
 use ae_gather::{Gather, Origin};
 use ae_reduce::Reduce;
 use ae_rewrite::MoveOp;
@@ -92,7 +93,7 @@ pub fn reducing(
     ensures is { IfOk result (λ r. (r.op ≡ op) × (r.slots ≡ slots) × (r.lanes ≡ lanes) × (r.period ≡ budget) × IsOneOf (st_tree r.element) (st_tree raw.now)) }
 {
     let element = element_of(raw).copy(alloc)?;
-    Ok(Reduce::of_shape(op, slots, lanes, element, budget).followed(wait))
+    Ok(Reduce::of(Fold::of_shape(op, slots, lanes, element, budget)).followed(wait))
 }
 
 // The layout of the elements that come on so many lanes.
@@ -133,5 +134,5 @@ pub fn scanning(
     ensures is { IfOk result (λ r. (r.op ≡ op) × (r.slots ≡ slots) × (r.lanes ≡ lanes) × (r.period ≡ budget) × IsArranged slots lanes (st_tree r.element) (st_tree out.now)) }
 {
     let element = elements_of(out, lanes).copy(alloc)?;
-    Ok(Scan::of_shape(op, slots, lanes, element, budget))
+    Ok(Scan::of(Fold::of_shape(op, slots, lanes, element, budget)))
 }

@@ -11,24 +11,12 @@ use Rattle.ae_sttype.specs.StTree.{StTree, st_tree, time, element_atom, element_
 use Rattle.ae_ops.specs.Folds.{log_up}
 use Rattle.ae_ops.specs.Waves.{wave_of}
 use Rattle.ae_ops.specs.Blocks.{AllAreWords, AllHold, HoldsWords, KeepsLaw, stream_of}
-use Rattle.ae_fold.specs.declared.plan.Plan.{Plan}
 use Rattle.ae_fold.specs.Rows.{AreScans, wait_of}
 use Rattle.ae_fold.specs.Shapes.{FoldShape, IsFoldShape, element_columns, element_folds, elements_layout}
 use Rattle.ae_fold.proofs.Blocks.{AllScan, reduce_holds}
+use Rattle.ae_fold.proofs.Building.{plan_for}
 use Rattle.ae_fold.proofs.Bundles.{length-folds, words_fit}
 use Rattle.ae_reduce.specs.Reduces.{reduce_latency, reduce_part}
-
--- the numbers of a fold
-abbrev pub plan_for : FoldShape → Plan
-plan_for f =
-    record {
-      slots = f.slots;
-      lanes = f.lanes;
-      stride = element_columns (st_tree f.element);
-      inner = time (st_tree f.element);
-      period = f.period;
-      levels = log_up f.lanes;
-    }
 
 latency_by : (b : Bool) (slots inner levels : ℕ) → nat_lt 1 slots ≡ b → 1 ≤ slots
     → levels + (if b then (slots - 1) * inner + 1 else 0) ≡ (slots - 1) * inner + (levels + (if b then 1 else 0))

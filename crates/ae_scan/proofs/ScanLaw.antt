@@ -6,28 +6,15 @@ use Rattle.ae_word.proofs.Sizes.{length-atom_kinds}
 use Rattle.ae_netlist.specs.declared.cell.NetId.{NetId}
 use Rattle.ae_netlist.specs.declared.cell.SizedCell.{SizedCell}
 use Rattle.ae_netlist.specs.Runs.{Clock}
-use Rattle.ae_sttype.specs.StTree.{StTree, st_tree, time, element_atom, element_words}
-use Rattle.ae_ops.specs.Folds.{log_up}
+use Rattle.ae_sttype.specs.StTree.{StTree, st_tree, element_atom, element_words}
 use Rattle.ae_ops.specs.Waves.{wave_of}
 use Rattle.ae_ops.specs.Blocks.{AllAreWords, AllHold, HoldsWords, KeepsLaw, stream_of}
-use Rattle.ae_fold.specs.declared.plan.Plan.{Plan}
 use Rattle.ae_fold.specs.Rows.{AreScans}
 use Rattle.ae_fold.specs.Shapes.{FoldShape, IsFoldShape, element_columns, element_folds, elements_layout}
 use Rattle.ae_fold.proofs.Blocks.{AllScan, scan_holds}
+use Rattle.ae_fold.proofs.Building.{plan_for}
 use Rattle.ae_fold.proofs.Bundles.{length-folds, words_fit}
 use Rattle.ae_scan.specs.Scans.{scan_latency, scan_part}
-
--- the numbers of a fold
-abbrev pub plan_for : FoldShape → Plan
-plan_for f =
-    record {
-      slots = f.slots;
-      lanes = f.lanes;
-      stride = element_columns (st_tree f.element);
-      inner = time (st_tree f.element);
-      period = f.period;
-      levels = log_up f.lanes;
-    }
 
 pub length-widths_of : (t : StTree) → length (map (λ (k : WordKind). k.width) (atom_kinds (element_atom t))) ≡ element_words t
 length-widths_of t = length-map (atom_kinds (element_atom t)) (λ (k : WordKind). k.width) ∙ length-atom_kinds (element_atom t)

@@ -1,16 +1,13 @@
 // The stage of a scan.
 
-ghost use Rattle.std.specs.Prelude.{◌≡◌, ◌↔◌, IfSome, IsSome};
-ghost use Rattle.ae_fold.specs.Shapes.{IsFoldShape};
+ghost use Rattle.std.specs.Prelude.{◌≡◌};
 ghost use Rattle.ae_scan.specs.Scans.{scan_part};
 
 use crate::scanning::scanned;
 use ae_clocked::Clocks;
-use ae_fold::{is_fold, levels, plan_of, word_folds};
+use ae_fold::Fold;
 use ae_netlist::{NetFault, Netlist};
 use ae_ops::{Bundle, Stage};
-use ae_sttype::StType;
-use ae_word::WordOp;
 use std::alloc::Global;
 use std::marker::Model;
 
@@ -18,11 +15,7 @@ use std::marker::Model;
 /// slots, one after the other from the first clock of a period, and so do the folds of elements 0 to i, for each i.
 #[derive(Drop)]
 pub struct Scan {
-    op: WordOp,
-    slots: u32,
-    lanes: u32,
-    element: StType,
-    period: u32,
+    fold: Fold,
 }
 
 impl Model for Scan {
@@ -34,39 +27,17 @@ impl Model for Scan {
 
     ghost coded = { Prim.hlevel (codes, e.the_row.coded) };
 
-    ghost view = { λ r. record { op = r.op; slots = r.slots; lanes = r.lanes; element = r.element; period = r.period } };
+    ghost view = { λ r. r.fold };
 
-    ghost invariant = { λ r. IsFoldShape (record { op = r.op; slots = r.slots; lanes = r.lanes; element = r.element; period = r.period }) };
+    ghost invariant = { λ r. IsFoldShape r.fold };
 }
 
 impl Scan {
-    /// The folds by an operator, of elements on so many lanes and in so many slots, in each period of so many clocks; on
-    /// signed words `min` and `max` are the signed ones. None exactly where the operator is not one of the seven that
-    /// fold, slots or lanes are 0 or more than 4,096, the element is not in size, or the period is 0, more than 4,096 or
-    /// too short for the slots. Takes no memory.
-    pub fn new(op: WordOp, slots: u32, lanes: u32, element: StType, period: u32) -> Option<Scan>
-        ensures some { IsSome result ↔ IsFoldShape (record { op = op; slots = slots; lanes = lanes; element = element; period = period }) }
-        ensures is { IfSome result (λ r. r ≡ record { op = op; slots = slots; lanes = lanes; element = element; period = period }) }
+    /// The stage of a scan. Takes no memory.
+    pub fn of(fold: Fold) -> Scan
+        ensures { result ≡ fold }
     {
-        if is_fold(op, slots, lanes, &element, period) {
-            Some(Scan::of_shape(op, slots, lanes, element, period))
-        } else {
-            None
-        }
-    }
-
-    /// `new`, where the scan is known to be one. Takes no memory.
-    pub fn of_shape(op: WordOp, slots: u32, lanes: u32, element: StType, period: u32) -> Scan
-        requires { IsFoldShape (record { op = op; slots = slots; lanes = lanes; element = element; period = period }) }
-        ensures { result ≡ record { op = op; slots = slots; lanes = lanes; element = element; period = period } }
-    {
-        Scan {
-            op,
-            slots,
-            lanes,
-            element,
-            period,
-        }
+        Scan { fold }
     }
 }
 
@@ -74,12 +45,13 @@ impl Stage for Scan {
     ghost part = { λ r. scan_part r };
 
     fn period(&self) -> u32 {
-        self.period
+        self.fold.period()
     }
 
     fn latency(&self) -> u32 {
-        let wait = if self.slots > 1 { 1 } else { 0 };
-        levels(self.lanes) + wait
+        let plan = self.fold.plan();
+        let wait = if plan.slots > 1 { 1 } else { 0 };
+        plan.levels + wait
     }
 
     fn build(
@@ -90,8 +62,8 @@ impl Stage for Scan {
         ins: &[Bundle],
         arrival: u32,
     ) -> Result<Bundle, NetFault> {
-        let plan = plan_of(self.slots, self.lanes, &self.element, self.period);
-        let folds = word_folds(alloc, self.op, &self.element)?;
+        let plan = self.fold.plan();
+        let folds = self.fold.words(alloc)?;
         let nets = ins[0].nets();
         let outs = scanned(alloc, nl, clocks, &folds, plan, nets, arrival)?;
         Ok(Bundle::new(outs))

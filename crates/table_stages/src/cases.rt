@@ -12,7 +12,7 @@ ghost use Rattle.table_stages.specs.Even.{TakesLanes};
 use crate::bench::{NoRoom, Times, delayed_words, input, over_lanes, run, tell_makers};
 use crate::words::{op_named, origins};
 use ae_clocked::{Clocks, choose, constant};
-use ae_fold::{is_fold, levels, plan_of, word_folds};
+use ae_fold::{Fold, levels, word_folds};
 use ae_gather::{Gather, Origin};
 use ae_netlist::{NetFault, NetId, Netlist};
 use ae_ops::{Bundle, WordStage};
@@ -25,7 +25,7 @@ use table_text::{Page, number_at, numbers, parted, word_at};
 
 /// The numbers of a fold: what it folds, and in which period.
 #[derive(Clone, Copy)]
-struct Fold {
+struct FoldCase {
     op: WordOp,
     signed: bool,
     slots: u32,
@@ -89,10 +89,19 @@ fn blocks(arrival: u32, shown: u32) -> Times {
     }
 }
 
-fn reduce(alloc: Global, out: &mut Page, fold: Fold, words: &[u64]) -> Result<(), NoRoom> {
+// The fold of a case, if it is one.
+fn fold_in(alloc: Global, fold: FoldCase) -> Result<Option<Fold>, AllocError>
+    ensures { IfOk result (λ found. IfSome found (λ f. (f.lanes ≡ fold.lanes) × (st_tree f.element ≡ tseq fold.clocks 0 (atom (word (record { signed = fold.signed; width = fold.width })))))) }
+{
     let element = row(alloc, fold.signed, fold.width, fold.clocks)?;
-    match Reduce::new(fold.op, fold.slots, fold.lanes, element, fold.period) {
-        Some(stage) if 1 <= fold.width && fold.width <= 64 => {
+    Ok(Fold::new(fold.op, fold.slots, fold.lanes, element, fold.period))
+}
+
+#[tactic(auto, using(crate::proofs::Taking::reduce_takes))]
+fn reduce(alloc: Global, out: &mut Page, fold: FoldCase, words: &[u64]) -> Result<(), NoRoom> {
+    match fold_in(alloc, fold)? {
+        Some(of) if 1 <= fold.width && fold.width <= 64 => {
+            let stage = Reduce::of(of);
             let times = blocks(0, fold.clocks);
             over_lanes(
                 alloc,
@@ -108,10 +117,11 @@ fn reduce(alloc: Global, out: &mut Page, fold: Fold, words: &[u64]) -> Result<()
     }
 }
 
-fn scan(alloc: Global, out: &mut Page, fold: Fold, words: &[u64]) -> Result<(), NoRoom> {
-    let element = row(alloc, fold.signed, fold.width, fold.clocks)?;
-    match Scan::new(fold.op, fold.slots, fold.lanes, element, fold.period) {
-        Some(stage) if 1 <= fold.width && fold.width <= 64 => {
+#[tactic(auto, using(crate::proofs::Taking::scan_takes))]
+fn scan(alloc: Global, out: &mut Page, fold: FoldCase, words: &[u64]) -> Result<(), NoRoom> {
+    match fold_in(alloc, fold)? {
+        Some(of) if 1 <= fold.width && fold.width <= 64 => {
+            let stage = Scan::of(of);
             let times = blocks(0, fold.slots.saturating_mul(fold.clocks));
             over_lanes(
                 alloc,
@@ -128,19 +138,17 @@ fn scan(alloc: Global, out: &mut Page, fold: Fold, words: &[u64]) -> Result<(), 
 }
 
 // The numbers that a fold is built by.
-fn plan(alloc: Global, out: &mut Page, fold: Fold) -> Result<(), NoRoom> {
-    let element = row(alloc, fold.signed, fold.width, fold.clocks)?;
-    if !is_fold(fold.op, fold.slots, fold.lanes, &element, fold.period) {
+fn plan(alloc: Global, out: &mut Page, fold: FoldCase) -> Result<(), NoRoom> {
+    let Some(of) = fold_in(alloc, fold)? else {
         return refused(out);
-    }
-    let plan = plan_of(fold.slots, fold.lanes, &element, fold.period);
-    out.show("", &plan);
+    };
+    out.show("", &of.plan());
     Ok(())
 }
 
 // The fold that a case names.
-fn fold_of(head: &str, op: WordOp) -> Fold {
-    Fold {
+fn fold_of(head: &str, op: WordOp) -> FoldCase {
+    FoldCase {
         op,
         signed: head.contains("signed"),
         slots: number_at(head, 2),

@@ -1,4 +1,4 @@
-use Rattle.std.proofs.Common.{◌≡◌, ◌≤◌, arith}
+use Rattle.std.proofs.Common.{arith}
 use Rattle.ae_vread.specs.View.{expr_tree}
 use Rattle.ae_judge.specs.Widths.{own_width}
 use Rattle.ae_order.proofs.SoundLaws.{sound_low}

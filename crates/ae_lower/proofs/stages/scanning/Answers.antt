@@ -28,4 +28,4 @@ returns c =
     let P : FoldShape → Type 0 =
     λ r. (r.op ≡ c.args.op) × (r.slots ≡ c.args.slots) × (r.lanes ≡ c.args.lanes) × (r.period ≡ c.args.budget)
     × IsArranged c.args.slots c.args.lanes (st_tree r.element) (st_tree c.args.out.now) in
-    record { is = subst P (sym c.of_shape.ensures) (refl, refl, refl, refl, rw e c.requires.arranged.1.0) }
+    record { is = subst P (sym (c.of.ensures ∙ c.of_shape.ensures)) (refl, refl, refl, refl, rw e c.requires.arranged.1.0) }

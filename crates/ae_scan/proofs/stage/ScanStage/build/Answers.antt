@@ -1,6 +1,7 @@
 -- The stage's circuit, by what it stands on.
 use Rattle.std.proofs.Common.{arith, ℕ, ◌+◌, ◌≤◌}
-use Rattle.ae_scan.proofs.Building.{build_bundle, build_cells, build_folds, build_law, build_long, build_memories, build_nets, build_of, build_products, build_whole}
+use Rattle.ae_fold.proofs.Building.{build_folds, build_long, build_memories, build_nets, build_of, build_whole}
+use Rattle.ae_scan.proofs.Building.{build_bundle, build_cells, build_law, build_products}
 use Rattle.ae_clocked.proofs.Adding.{grows_refl}
 use Rattle.ae_clocked.proofs.Belonging.{keeps_same}
 use Rattle.ae_scan.proofs.stage.ScanStage.build.Goals as goal
@@ -11,48 +12,48 @@ at_least a more = omega arith
 pub scanned-requires-clause-folds : goal.scanned-requires-clause-folds
 scanned-requires-clause-folds c =
     build_folds _ _ _ _ _ _
-    (build_of _ _ _ _ _ c.args.ins.now _ _ c.self.invariant c.deref.ensures.value c.in_ok-folds.ensures.folds c.plan_of-plan.ensures.plan
-    c.plan_of-plan.ensures.numbers (rw (← c.self.view_is) at c.requires.bundles) c.index-ins-0.is c.nets-nets.ensures)
+    (build_of _ _ _ _ _ c.args.ins.now _ _ c.self.invariant c.deref.ensures.value c.in_ok-folds.ensures c.plan-plan.ensures.plan
+    c.plan-plan.ensures.numbers (rw (← c.self.view_is) at c.requires.bundles) c.index-ins-0.is c.nets-nets.ensures)
 
 pub scanned-requires-clause-nets : goal.scanned-requires-clause-nets
 scanned-requires-clause-nets c =
     build_nets _ _ _ _ _ _
-    (build_of _ _ _ _ _ c.args.ins.now _ _ c.self.invariant c.deref.ensures.value c.in_ok-folds.ensures.folds c.plan_of-plan.ensures.plan
-    c.plan_of-plan.ensures.numbers (rw (← c.self.view_is) at c.requires.bundles) c.index-ins-0.is c.nets-nets.ensures)
+    (build_of _ _ _ _ _ c.args.ins.now _ _ c.self.invariant c.deref.ensures.value c.in_ok-folds.ensures c.plan-plan.ensures.plan
+    c.plan-plan.ensures.numbers (rw (← c.self.view_is) at c.requires.bundles) c.index-ins-0.is c.nets-nets.ensures)
 
 pub scanned-requires-clause-long : goal.scanned-requires-clause-long
 scanned-requires-clause-long c =
     build_long _ _ _ _ _ _
-    (build_of _ _ _ _ _ c.args.ins.now _ _ c.self.invariant c.deref.ensures.value c.in_ok-folds.ensures.folds c.plan_of-plan.ensures.plan
-    c.plan_of-plan.ensures.numbers (rw (← c.self.view_is) at c.requires.bundles) c.index-ins-0.is c.nets-nets.ensures)
+    (build_of _ _ _ _ _ c.args.ins.now _ _ c.self.invariant c.deref.ensures.value c.in_ok-folds.ensures c.plan-plan.ensures.plan
+    c.plan-plan.ensures.numbers (rw (← c.self.view_is) at c.requires.bundles) c.index-ins-0.is c.nets-nets.ensures)
 
 pub scanned-requires-clause-whole : goal.scanned-requires-clause-whole
 scanned-requires-clause-whole c =
     build_whole _ _ _ _ _ _
-    (build_of _ _ _ _ _ c.args.ins.now _ _ c.self.invariant c.deref.ensures.value c.in_ok-folds.ensures.folds c.plan_of-plan.ensures.plan
-    c.plan_of-plan.ensures.numbers (rw (← c.self.view_is) at c.requires.bundles) c.index-ins-0.is c.nets-nets.ensures)
+    (build_of _ _ _ _ _ c.args.ins.now _ _ c.self.invariant c.deref.ensures.value c.in_ok-folds.ensures c.plan-plan.ensures.plan
+    c.plan-plan.ensures.numbers (rw (← c.self.view_is) at c.requires.bundles) c.index-ins-0.is c.nets-nets.ensures)
 
 pub returns-in_err-outs-clause-cells : goal.returns-in_err-outs-clause-cells
 returns-in_err-outs-clause-cells c =
     rw (← c.self.view_is)
     (build_cells _ _ _ _ _ _ _ _
-    (build_of _ _ _ _ _ c.args.ins.now _ _ c.self.invariant c.deref.ensures.value c.in_ok-folds.ensures.folds c.plan_of-plan.ensures.plan
-    c.plan_of-plan.ensures.numbers (rw (← c.self.view_is) at c.requires.bundles) c.index-ins-0.is c.nets-nets.ensures)
+    (build_of _ _ _ _ _ c.args.ins.now _ _ c.self.invariant c.deref.ensures.value c.in_ok-folds.ensures c.plan-plan.ensures.plan
+    c.plan-plan.ensures.numbers (rw (← c.self.view_is) at c.requires.bundles) c.index-ins-0.is c.nets-nets.ensures)
     c.in_err-outs.ensures.up)
 
 pub returns-clause-cells : goal.returns-clause-cells
 returns-clause-cells c =
     rw (← c.self.view_is)
     (build_cells _ _ _ _ _ _ _ _
-    (build_of _ _ _ _ _ c.args.ins.now _ _ c.self.invariant c.deref.ensures.value c.in_ok-folds.ensures.folds c.plan_of-plan.ensures.plan
-    c.plan_of-plan.ensures.numbers (rw (← c.self.view_is) at c.requires.bundles) c.index-ins-0.is c.nets-nets.ensures)
+    (build_of _ _ _ _ _ c.args.ins.now _ _ c.self.invariant c.deref.ensures.value c.in_ok-folds.ensures c.plan-plan.ensures.plan
+    c.plan-plan.ensures.numbers (rw (← c.self.view_is) at c.requires.bundles) c.index-ins-0.is c.nets-nets.ensures)
     c.in_ok-outs.ensures.up)
 
 pub returns-clause-muls : goal.returns-clause-muls
 returns-clause-muls c =
     let e = build_products _ _ _ _ _ _
-    (build_of _ _ _ _ _ c.args.ins.now _ _ c.self.invariant c.deref.ensures.value c.in_ok-folds.ensures.folds c.plan_of-plan.ensures.plan
-    c.plan_of-plan.ensures.numbers (rw (← c.self.view_is) at c.requires.bundles) c.index-ins-0.is c.nets-nets.ensures)
+    (build_of _ _ _ _ _ c.args.ins.now _ _ c.self.invariant c.deref.ensures.value c.in_ok-folds.ensures c.plan-plan.ensures.plan
+    c.plan-plan.ensures.numbers (rw (← c.self.view_is) at c.requires.bundles) c.index-ins-0.is c.nets-nets.ensures)
     in
     rw (← c.self.view_is) (omega (arith, c.in_ok-outs.ensures.adds.muls, e))
 
@@ -60,38 +61,20 @@ pub returns-clause-bundle : goal.returns-clause-bundle
 returns-clause-bundle c =
     rw (← c.self.view_is)
     (build_bundle _ _ _ _ _ _ _ _ _ _ _
-    (build_of _ _ _ _ _ c.args.ins.now _ _ c.self.invariant c.deref.ensures.value c.in_ok-folds.ensures.folds c.plan_of-plan.ensures.plan
-    c.plan_of-plan.ensures.numbers (rw (← c.self.view_is) at c.requires.bundles) c.index-ins-0.is c.nets-nets.ensures)
+    (build_of _ _ _ _ _ c.args.ins.now _ _ c.self.invariant c.deref.ensures.value c.in_ok-folds.ensures c.plan-plan.ensures.plan
+    c.plan-plan.ensures.numbers (rw (← c.self.view_is) at c.requires.bundles) c.index-ins-0.is c.nets-nets.ensures)
     c.new.ensures c.in_ok-outs.ensures.long c.in_ok-outs.ensures.scans)
 
 pub returns-clause-law : goal.returns-clause-law
 returns-clause-law c =
     rw (← c.self.view_is)
     (build_law _ _ _ _ _ _ _ _ _ _ _
-    (build_of _ _ _ _ _ c.args.ins.now _ _ c.self.invariant c.deref.ensures.value c.in_ok-folds.ensures.folds c.plan_of-plan.ensures.plan
-    c.plan_of-plan.ensures.numbers (rw (← c.self.view_is) at c.requires.bundles) c.index-ins-0.is c.nets-nets.ensures)
+    (build_of _ _ _ _ _ c.args.ins.now _ _ c.self.invariant c.deref.ensures.value c.in_ok-folds.ensures c.plan-plan.ensures.plan
+    c.plan-plan.ensures.numbers (rw (← c.self.view_is) at c.requires.bundles) c.index-ins-0.is c.nets-nets.ensures)
     c.new.ensures c.in_ok-outs.ensures.long c.in_ok-outs.ensures.scans)
 
-pub plan_of-plan-requires-clause-slots_some : goal.plan_of-plan-requires-clause-slots_some
-plan_of-plan-requires-clause-slots_some c = c.self.invariant.slots_some
-
-pub plan_of-plan-requires-clause-lanes_some : goal.plan_of-plan-requires-clause-lanes_some
-plan_of-plan-requires-clause-lanes_some c = c.self.invariant.lanes_some
-
-pub plan_of-plan-requires-clause-lanes_most : goal.plan_of-plan-requires-clause-lanes_most
-plan_of-plan-requires-clause-lanes_most c = c.self.invariant.lanes_most
-
-pub plan_of-plan-requires-clause-element : goal.plan_of-plan-requires-clause-element
-plan_of-plan-requires-clause-element c = c.self.invariant.element
-
-pub plan_of-plan-requires-clause-period_most : goal.plan_of-plan-requires-clause-period_most
-plan_of-plan-requires-clause-period_most c = c.self.invariant.period_most
-
-pub plan_of-plan-requires-clause-room : goal.plan_of-plan-requires-clause-room
-plan_of-plan-requires-clause-room c = c.self.invariant.room
-
 pub scanned-requires-clause-plan : goal.scanned-requires-clause-plan
-scanned-requires-clause-plan c = c.plan_of-plan.ensures.plan
+scanned-requires-clause-plan c = c.plan-plan.ensures.plan
 
 pub scanned-requires-clause-belongs : goal.scanned-requires-clause-belongs
 scanned-requires-clause-belongs c = c.requires.belongs
@@ -129,8 +112,8 @@ returns-clause-grows c = c.in_ok-outs.ensures.up.grows
 pub returns-clause-memories : goal.returns-clause-memories
 returns-clause-memories c =
     let e = build_memories _ _ _ _ _ _
-    (build_of _ _ _ _ _ c.args.ins.now _ _ c.self.invariant c.deref.ensures.value c.in_ok-folds.ensures.folds c.plan_of-plan.ensures.plan
-    c.plan_of-plan.ensures.numbers (rw (← c.self.view_is) at c.requires.bundles) c.index-ins-0.is c.nets-nets.ensures)
+    (build_of _ _ _ _ _ c.args.ins.now _ _ c.self.invariant c.deref.ensures.value c.in_ok-folds.ensures c.plan-plan.ensures.plan
+    c.plan-plan.ensures.numbers (rw (← c.self.view_is) at c.requires.bundles) c.index-ins-0.is c.nets-nets.ensures)
     in
     rw (← c.self.view_is) (omega (arith, c.in_ok-outs.ensures.adds.memories, e))
 

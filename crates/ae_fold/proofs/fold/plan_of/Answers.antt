@@ -2,7 +2,7 @@ use Rattle.std.proofs.Common.{◌≡◌, ◌*◌, ap, ◌∙◌, arith}
 use Rattle.ae_sttype.specs.StTree.{lanes, element_words, st_tree}
 use Rattle.ae_sttype.proofs.Bounds.{time_pos}
 use Rattle.ae_fold.proofs.Planning.{columns_small, columns_some}
-use Rattle.ae_fold.proofs.plan.plan_of.Goals as goal
+use Rattle.ae_fold.proofs.fold.plan_of.Goals as goal
 
 pub overflow_mul-result : goal.overflow_mul-result
 overflow_mul-result c =
