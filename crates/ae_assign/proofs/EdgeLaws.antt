@@ -1,5 +1,5 @@
 -- What one assignment changes in what registers and memories take.
-use Rattle.std.proofs.Common.{ℕ, ◌≡◌, ◌≢◌, ◌+◌, ◌==◌, ◌<◌, inl, inr, Bool, true, false, not, ◌&&◌, if◌then◌else◌, List, [], ◌∷◌, length, Option, Some, None, Result, Ok, Err, OnOk, slice_get, arith, add-one, refl, sym, ap, ◌∙◌}
+use Rattle.std.proofs.Common.{ℕ, ◌≡◌, ◌≢◌, ◌+◌, ◌==◌, ◌<◌, inl, inr, Bool, true, false, not, ◌&&◌, if◌then◌else◌, List, [], ◌∷◌, length, Option, Some, None, slice_get, arith, add-one, refl, sym, ap, ◌∙◌}
 use Rattle.std.specs.Prelude.{bytes_eq, slice_set}
 use Rattle.std.proofs.lemmas.Bool.{cases_Bool, cond-true, cond-false, both_ways}
 use Rattle.std.proofs.lemmas.List.{get_or-set_same, get_or-set_other}
@@ -26,10 +26,6 @@ and_bit true true = refl
 and_bit true false = refl
 and_bit false true = refl
 and_bit false false = refl
-
-pub on_ok_both : {A E : Type 0} {P Q R : Type 0} (r : Result A E) → (P → Q → R) → OnOk r P → OnOk r Q → OnOk r R
-on_ok_both (Ok y) f p q = f p q
-on_ok_both (Err e) f p q = tt
 
 -- a guard goes on to be one as the netlist grows
 pub guard_grows : {a b : Circuit} (from : ℕ) (guard : Option NetId) (g : List Clock → ℕ → Bool) → Grows a b → IsGuard from a.cells guard g

@@ -7,12 +7,11 @@ ghost use Rattle.ae_netlist.specs.Runs.{Clock};
 ghost use Rattle.ae_vread.specs.ModuleTree.{index as index_tree, put as put_tree, set as set_tree};
 ghost use Rattle.ae_vread.specs.StmtReading.{block_of};
 ghost use Rattle.ae_vread.specs.View.{expr_tree, stmt_tree};
-ghost use Rattle.ae_judge.specs.Names.{depth_of, is_memory_name, is_register_name, stmt_targets};
-ghost use Rattle.ae_judge.specs.Widths.{declared_width};
+ghost use Rattle.ae_judge.specs.Names.{depth_of, is_memory_name, stmt_targets};
 ghost use Rattle.ae_judge.specs.Weight.{expr_weight, stmt_weight};
 ghost use Rattle.ae_runs.specs.Values.{own_value};
 ghost use Rattle.ae_gates.specs.Cells.{Grows, HasRoom, IsWord};
-ghost use Rattle.ae_runs.specs.Named.{AreNamed, AreNets, IsNamed, IsReady, read};
+ghost use Rattle.ae_runs.specs.Named.{AreNamed, AreNets, read};
 ghost use Rattle.ae_order.specs.Sound.{IsReadyFor, IsSound};
 ghost use Rattle.ae_assign.specs.Edges.{Acts, AreFresh, FitNexts, IsActed, IsAddressWord, IsGuard, IsGuardNet, IsReadyStmt, IsSoFar, IsSoundStmt, IsWordNext, OthersKeep};
 

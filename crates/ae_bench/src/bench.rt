@@ -1,6 +1,6 @@
 // A test bench for the module of a program.
 
-ghost use Rattle.std.specs.Prelude.{◌<◌, ◌≤◌, length, All};
+ghost use Rattle.std.specs.Prelude.{◌<◌, ◌≤◌, length};
 
 use crate::wires::Wires;
 use ae_compile::Costed;

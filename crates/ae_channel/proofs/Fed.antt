@@ -1,27 +1,23 @@
 -- The words of each block of a program can be put on the inputs of its circuit.
-use Rattle.std.proofs.Common.{ℕ, zero, suc, ◌≡◌, ◌+◌, ◌*◌, ◌<◌, ◌≤◌, cond, false, List, [], ◌∷◌, ◌++◌, length, length-append, map, take, drop, flat_map, get_or, Some, slice_get, arith, refl, ap, sym, ◌∙◌, subst, append_assoc}
+use Rattle.std.proofs.Common.{ℕ, zero, suc, ◌≡◌, ◌+◌, ◌*◌, ◌<◌, false, List, [], ◌∷◌, ◌++◌, length, length-append, map, take, drop, flat_map, get_or, Some, slice_get, arith, refl, ap, sym, ◌∙◌, subst}
 use Rattle.std.specs.List.{All}
-use Rattle.std.proofs.Math.Nat.{suc-add, zero-add, zero-mul}
 use Rattle.std.proofs.lemmas.List.{take_all, take_at}
 use Rattle.std.proofs.lemmas.List.Concat.{flat_map-cons}
 use Rattle.std.proofs.lemmas.List.Sums.{sum_by-cons}
 use Rattle.std.proofs.lemmas.Option.{slice_get_within}
-use Rattle.ae_word.specs.AtomTree.{WordKind, atom_kinds}
+use Rattle.ae_word.specs.AtomTree.{atom_kinds}
 use Rattle.ae_word.proofs.Sizes.{length-atom_kinds}
-use Rattle.ae_seqtype.specs.SeqTree.{SeqTree, atom, seq, atoms, atom_of, kinds, repeated}
+use Rattle.ae_seqtype.specs.SeqTree.{SeqTree, atom, atoms, kinds, repeated}
 use Rattle.ae_seqtype.specs.ValueTree.{FitKinds, Stands, ValueTree, flat}
 use Rattle.ae_seqtype.proofs.Sizes.{length-repeated}
-use Rattle.ae_seqtype.proofs.Stands.{FitKinds-append, length-Fit, length-FitKinds, repeated-one, repeated-add as repeated_add, repeated-mul as repeated_mul}
-use Rattle.ae_seqtype.proofs.Values.{flat-value_of}
+use Rattle.ae_seqtype.proofs.Stands.{FitKinds-append, length-FitKinds, repeated-one}
 use Rattle.ae_sttype.specs.declared.st_type.Slot.{Slot}
 use Rattle.ae_sttype.specs.StTree.{StTree, element_atom, element_words, st_atoms}
 use Rattle.ae_sttype.specs.Slots.{slots}
 use Rattle.ae_sttype.specs.Moves.{first_column}
 use Rattle.ae_netlist.specs.declared.cell.Port.{Port}
 use Rattle.ae_netlist.specs.declared.cell.Port.TheVariants.{In, Reset}
-use Rattle.ae_netlist.specs.declared.cell.SizedCell.{SizedCell}
 use Rattle.ae_netlist.specs.Circuit.{Circuit}
-use Rattle.ae_netlist.specs.Counts.{count_of, is_input}
 use Rattle.ae_netlist.specs.Rows.{AreFirsts, AreInputs, HasOneRunWith, IsRunWith, filled}
 use Rattle.ae_netlist.specs.Runs.{Clock, no_clock, word_at}
 use Rattle.ae_netlist.proofs.Shapes.{clock_shaped}

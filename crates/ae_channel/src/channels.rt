@@ -1,12 +1,9 @@
 // The circuit of a compiled program between two channels.
 
-ghost use Rattle.std.specs.Prelude.{◌≡◌, ◌<◌, ◌≤◌, IfErr, IfOk, Some, length, map, slice_get, sum_by};
+ghost use Rattle.std.specs.Prelude.{◌≡◌, ◌<◌, IfErr, IfOk, map};
 ghost use Rattle.ae_seq.specs.ProgramTree.{program_tree};
 ghost use Rattle.ae_sttype.specs.StTree.{st_tree};
-ghost use Rattle.ae_sttype.specs.Moves.{columns_of};
-ghost use Rattle.ae_stall.specs.Copies.{reset_cell};
 ghost use Rattle.ae_stream.specs.Fed.{CanBeFed};
-ghost use Rattle.ae_streamed.specs.Beats.{AreLayouts};
 ghost use Rattle.ae_streamed.specs.Between.{IsStream};
 ghost use Rattle.ae_verilog.specs.ReportLines.{report_tree};
 ghost use Rattle.ae_channel.specs.Asked.{CanStream};

@@ -225,11 +225,6 @@ marks_counter run y r p o from start counts marks c l = rw (counts c l) (marks c
 pub at_word_is : (r word bound at : ℕ) → bound ≡ word → at ≡ (if r == bound then 1 else 0) → at ≡ (if r == word then 1 else 0)
 at_word_is r word bound at b e = rw (e, b) refl
 
-pub turn_after : (rst y a b once after begin next y' first : ℕ) → once ≡ (if y == a then 1 else 0) → after ≡ (if once == b then 1 else 0) → begin ≡ first
-    → next ≡ (if rst == 1 then begin else after) → y' ≡ next
-    → y' ≡ (if rst == 1 then first else (if (if y == a then 1 else 0) == b then 1 else 0))
-turn_after rst y a b once after begin next y' first o f g n e = rw (e, n, g, f, o) refl
-
 xor_bits : (y a b : ℕ) → y < 2 → a < 2 → b < 2 → bit_xor (bit_xor y a) b ≡ (if (if y == a then 1 else 0) == b then 1 else 0)
 xor_bits zero zero zero p q r = refl
 xor_bits zero zero (suc zero) p q r = refl

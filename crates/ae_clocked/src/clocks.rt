@@ -1,6 +1,6 @@
 // Counters of clocks, made once for each period and offset, and marks, made once for each period, offset and length.
 
-ghost use Rattle.std.specs.Prelude.{◌≡◌, ◌+◌, ◌<◌, ◌≤◌, ℕ, [], IfOk, OnErr, OnOk, Some, None, Ok, Err, length, ◌≢◌, if◌then◌else◌};
+ghost use Rattle.std.specs.Prelude.{◌≡◌, ◌+◌, ◌<◌, ◌≤◌, [], IfOk, OnErr, OnOk, Some, None, Ok, Err, length, ◌≢◌, if◌then◌else◌};
 ghost use Rattle.ae_netlist.specs.declared.cell.NetId.{NetId};
 ghost use Rattle.ae_netlist.specs.Circuit.{IsNet};
 ghost use Rattle.ae_netlist.specs.Counts.{count_of, is_register};

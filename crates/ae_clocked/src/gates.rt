@@ -1,6 +1,6 @@
 // One cell at a time, with what its net holds in every run.
 
-ghost use Rattle.std.specs.Prelude.{◌≡◌, ◌+◌, ◌<◌, ◌≤◌, ◌^◌, ℕ, ◌∷◌, [], length, IfOk, OnOk, OnErr, if◌then◌else◌};
+ghost use Rattle.std.specs.Prelude.{◌≡◌, ◌+◌, ◌<◌, ◌≤◌, ◌^◌, ◌∷◌, [], length, IfOk, OnOk, OnErr, if◌then◌else◌};
 ghost use Rattle.ae_netlist.specs.Circuit.{IsNet, IsOperation, IsRegister, main_operand, width_of};
 ghost use Rattle.ae_netlist.specs.Counts.{count_of, is_product, is_register};
 ghost use Rattle.ae_netlist.specs.Runs.{InEveryRunFrom};

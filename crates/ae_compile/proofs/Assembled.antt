@@ -1,5 +1,5 @@
 -- What compiling makes of a costed program.
-use Rattle.std.proofs.Common.{◌≡◌, ℕ, false, List, map, Some, slice_get, ap, sym, ◌∙◌, subst}
+use Rattle.std.proofs.Common.{◌≡◌, ℕ, false, List, Some, slice_get, sym, subst}
 use Rattle.ae_seq.specs.ProgramTree.{FuncTree, ProgramTree}
 use Rattle.ae_rewrite.specs.StProgramTree.{StFuncTree}
 use Rattle.ae_rewrite.specs.Sound.{item_layouts}

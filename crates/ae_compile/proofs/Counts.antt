@@ -1,5 +1,5 @@
 -- How many parameters and results a function of a typed program has.
-use Rattle.std.proofs.Common.{◌≡◌, ℕ, zero, suc, ◌+◌, ◌≤◌, ◌==◌, ◌&&◌, nat_le, Bool, true, false, if◌then◌else◌, List, [], ◌∷◌, length, Some, slice_get, refl, arith, subst}
+use Rattle.std.proofs.Common.{◌≡◌, ℕ, zero, suc, ◌+◌, ◌≤◌, ◌&&◌, nat_le, Bool, true, false, List, [], ◌∷◌, length, Some, slice_get, refl, arith, subst}
 use Rattle.std.proofs.lemmas.Bool.Decides.{nat_tests}
 use Rattle.ae_seq.specs.ProgramTree.{FuncTree, ProgramTree}
 use Rattle.ae_seq.specs.Formed.{all_below, all_distinct, formed_func, formed_funcs, formed_nodes, formed_params, func_names, is_name, item_count, line_count, most_results, named_items, within}

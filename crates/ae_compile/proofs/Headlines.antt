@@ -1,5 +1,5 @@
 -- The text of a program's circuit is a listing for the program.
-use Rattle.std.proofs.Common.{◌≡◌, ℕ, ◌+◌, Bool, true, false, List, [], ◌∷◌, Some, if◌then◌else◌, length, map, inl, inr, refl, arith, sym, ap, ◌∙◌, subst}
+use Rattle.std.proofs.Common.{◌≡◌, ℕ, ◌+◌, Bool, true, false, List, [], ◌∷◌, if◌then◌else◌, length, map, inl, inr, refl, arith, sym, ap, ◌∙◌, subst}
 use Rattle.std.proofs.lemmas.Option.{same_Some}
 use Rattle.ae_seq.specs.ProgramTree.{FuncTree, NodeTree, ProgramTree}
 use Rattle.ae_sttype.specs.StTree.{StTree}

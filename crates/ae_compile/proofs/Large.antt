@@ -1,16 +1,14 @@
 -- A load that is too large, and one within a limit.
-use Rattle.std.proofs.Common.{◌≡◌, ℕ, ◌+◌, ◌<◌, ◌≤◌, nat_lt, inr, List, [], ◌∷◌, ◌++◌, map, take, Option, None, Some, slice_get, Bool, true, false, if◌then◌else◌, refl, arith, ap, sym, ◌∙◌, subst}
+use Rattle.std.proofs.Common.{◌≡◌, ℕ, ◌+◌, ◌≤◌, nat_lt, inr, List, [], ◌∷◌, ◌++◌, map, take, Option, None, Some, slice_get, Bool, true, false, if◌then◌else◌, refl, arith, ap, sym, ◌∙◌, subst}
 use Rattle.std.specs.Prelude.{sum_by}
 use Rattle.std.specs.Option.{option_and_then}
 use Rattle.std.proofs.lemmas.Bool.Decides.{nat_tests}
 use Rattle.std.proofs.lemmas.List.Sums.{sum_by-cons}
-use Rattle.std.proofs.lemmas.Option.{same_Some}
 use Rattle.ae_seq.specs.ProgramTree.{FuncTree, ProgramTree}
 use Rattle.ae_rewrite.specs.Interface.{main_of}
 use Rattle.ae_rewrite.specs.StProgramTree.{StFuncTree}
 use Rattle.ae_rewrite.specs.Sound.{item_layouts}
-use Rattle.ae_delay.specs.declared.own.OwnCosts.{OwnCosts}
-use Rattle.ae_delay.specs.Costs.{LineLoad, NodeTiming, all_costs, first_over, func_costs, line_loads, load_at_line, node_timings, result_uses, slack_load, too_large}
+use Rattle.ae_delay.specs.Costs.{LineLoad, NodeTiming, all_costs, first_over, line_loads, load_at_line, node_timings, result_uses, slack_load, too_large}
 use Rattle.ae_lower.specs.Lowering.{costs_in, instance_costs}
 use Rattle.ae_trace.specs.Traces.{is_movement}
 use Rattle.ae_fuse.specs.Costing.{Costing, costing, costing_over, fused_costing, scheduled_costing}
@@ -116,13 +114,6 @@ moved_costing p all v h =
 pub moved_main : (p : ProgramTree) (all : List StFuncTree) (v : FusedView) → IsFusedOf p all v → main_costs p all ≡ moves_costs v
 moved_main p all v h = ap (λ (c : Costing). c.costs) (moved_costing p all v h) ∙ sym h.costs
 
-pub moved_over : (limit : ℕ) (p : ProgramTree) (all : List StFuncTree) (v : FusedView) (f : FuncTree) → slice_get p.funcs (main_of p) ≡ Some f
-    → IsFusedOf p all v → costs_over limit p all ≡ first_over limit 0 (record { line = f.end_line; load = v.load } ∷ [])
-moved_over limit p all v f there h =
-    let same : h.func ≡ f = same_Some h.func f (sym h.there ∙ there) in
-    let load : (fused_costing h.func h.instance).costs.load ≡ v.load = sym (ap (λ (o : OwnCosts). o.load) h.costs) in
-    ap (costing_over limit) (moved_costing p all v h) ∙ (λ i. first_over limit 0 (record { line = (same i).end_line; load = load i } ∷ []))
-
 -- and where the load of a program that computes is within the limit, no line passes it
 none_over : (limit sum : ℕ) (ls : List LineLoad) → sum + sum_by (λ (l : LineLoad). l.load) ls ≤ limit → first_over limit sum ls ≡ None
 none_over limit sum [] h = refl
@@ -157,21 +148,3 @@ arrivals_found p all (Plain t) h are =
 arrivals_found p all (Fused v) h are = ap (λ (xs : List ℕ). Some xs) (are.arrivals ∙ ap (λ (c : Costing). c.arrivals) (sym (moved_costing p all v are)))
 
 -- ---- within a limit
-
--- one line passes the limit by itself, or it does not
-one_over : (limit : ℕ) (l : LineLoad) → limit < l.load → first_over limit 0 (l ∷ []) ≡ Some (record { line = l.line; load = 0 + l.load })
-one_over limit l h =
-    let t : nat_lt limit (0 + l.load) ≡ true = grind (arith, nat_tests) in
-    ap (λ (b : Bool). if b then Some (record { line = l.line; load = 0 + l.load }) else None) t
-
-one_within : (limit : ℕ) (l : LineLoad) → l.load ≤ limit → first_over limit 0 (l ∷ []) ≡ None
-one_within limit l h =
-    let t : nat_lt limit (0 + l.load) ≡ false = grind (arith, nat_tests) in
-    ap (λ (b : Bool). if b then Some (record { line = l.line; load = 0 + l.load }) else None) t
-
-pub moved_large : (limit : ℕ) (p : ProgramTree) (all : List StFuncTree) (v : FusedView) (f : FuncTree) → slice_get p.funcs (main_of p) ≡ Some f
-    → IsFusedOf p all v → limit < v.load → IsLargeAt (costs_over limit p all) (TooLarge f.end_line)
-moved_large limit p all v f there h over = (0 + v.load, moved_over limit p all v f there h ∙ one_over limit (record { line = f.end_line; load = v.load }) over)
-
-pub moved_within : (limit : ℕ) (p : ProgramTree) (all : List StFuncTree) (v : FusedView) → IsFusedOf p all v → v.load ≤ limit → costs_over limit p all ≡ None
-moved_within limit p all v h within = moved_over limit p all v h.func h.there h ∙ one_within limit (record { line = h.func.end_line; load = v.load }) within

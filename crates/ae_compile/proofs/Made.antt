@@ -6,7 +6,7 @@ use Rattle.std.proofs.lemmas.Option.{same_Some}
 use Rattle.ae_seq.specs.ProgramTree.{FuncTree, ProgramTree}
 use Rattle.ae_sttype.specs.StTree.{StTree}
 use Rattle.ae_rewrite.specs.StProgramTree.{StFuncTree}
-use Rattle.ae_rewrite.specs.Interface.{HaveLayouts, main_of}
+use Rattle.ae_rewrite.specs.Interface.{HaveLayouts}
 use Rattle.ae_netlist.specs.Circuit.{Circuit}
 use Rattle.ae_netlist.specs.declared.cell.SizedCell.{SizedCell}
 use Rattle.ae_delay.specs.declared.own.OwnCosts.{OwnCosts}

@@ -1,5 +1,5 @@
 -- What is so of the program function of a typed program, and of its instance.
-use Rattle.std.proofs.Common.{◌≡◌, ℕ, zero, suc, ◌+◌, ◌-◌, ◌≤◌, Bool, true, false, ◌&&◌, List, [], ◌∷◌, ◌++◌, length, length-append, map, take, Some, slice_get, refl, ap, sym, ◌∙◌, arith, IsTrue}
+use Rattle.std.proofs.Common.{◌≡◌, ℕ, zero, suc, ◌+◌, ◌-◌, ◌≤◌, true, List, [], ◌∷◌, ◌++◌, length, length-append, map, take, Some, slice_get, ap, sym, ◌∙◌, arith, IsTrue}
 use Rattle.std.specs.Prelude.{get_or}
 use Rattle.std.proofs.lemmas.List.{length-map}
 use Rattle.std.proofs.lemmas.Option.{none-some, same_Some}
@@ -9,7 +9,7 @@ use Rattle.ae_seq.specs.Formed.{formed, formed_funcs, formed_func, most_results,
 use Rattle.ae_sttype.specs.StTree.{StTree}
 use Rattle.ae_rewrite.specs.LayoutRule.{lay_of}
 use Rattle.ae_rewrite.specs.StProgramTree.{StFuncTree, StNodeTree}
-use Rattle.ae_rewrite.specs.Scheduled.{Keys, HasKey, IsSchedule, AreStNodes, node_layouts, param_layouts}
+use Rattle.ae_rewrite.specs.Scheduled.{HasKey, IsSchedule, node_layouts, param_layouts}
 use Rattle.ae_rewrite.specs.Sound.{IsSound, item_layouts}
 use Rattle.ae_rewrite.specs.Interface.{main_of}
 use Rattle.ae_rewrite.proofs.Forms.{formed-of, few-nodes, both-left as both_left, both-right as both_right}

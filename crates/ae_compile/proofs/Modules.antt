@@ -1,30 +1,25 @@
 -- The text of a program's module.
-use Rattle.std.proofs.Common.{◌≡◌, ℕ, ◌+◌, ◌*◌, ◌^◌, ◌<◌, ◌≤◌, zero, suc, List, [], ◌∷◌, ◌++◌, length, map, take, filter, length-append, Some, slice_get, IsTrue, refl, arith, ap, sym, ◌∙◌, subst}
+use Rattle.std.proofs.Common.{◌≡◌, ℕ, ◌+◌, ◌*◌, ◌^◌, ◌<◌, ◌≤◌, zero, suc, List, [], ◌∷◌, length, map, filter, length-append, Some, slice_get, refl, arith, ap, sym, ◌∙◌, subst}
 use Rattle.std.proofs.lemmas.List.{length-map}
-use Rattle.std.proofs.lemmas.Option.{same_Some, slice_get_within}
-use Rattle.std.specs.List.{list_all}
 use Rattle.ae_sttype.specs.StTree.{StTree, lanes, st_atoms, element_words}
 use Rattle.ae_sttype.specs.Size.{IsInSize}
 use Rattle.ae_sttype.proofs.Bounds.{lanes-le-atoms}
 use Rattle.ae_seq.specs.ProgramTree.{ProgramTree}
-use Rattle.ae_eval.proofs.Items.{entry-at}
-use Rattle.ae_correct.proofs.ModulePorts.{mapped_at}
 use Rattle.ae_rewrite.specs.StProgramTree.{StFuncTree}
 use Rattle.ae_rewrite.specs.Sound.{IsSound, item_layout, item_layouts}
 use Rattle.ae_delay.proofs.Instances.{all_items}
 use Rattle.ae_netlist.specs.Circuit.{Circuit}
-use Rattle.ae_netlist.specs.Counts.{count_of, is_mul}
 use Rattle.ae_vread.specs.ModuleTree.{ModuleTree}
-use Rattle.ae_vread.specs.Spells.{Spells, stars}
+use Rattle.ae_vread.specs.Spells.{Spells}
 use Rattle.ae_elab.specs.Faults.{IsWellFormed}
 use Rattle.ae_elab.specs.Runs.{HasOneModuleRun}
 use Rattle.ae_elab.specs.SameRuns.{HasSameRuns}
 use Rattle.ae_elab.specs.Weight.{weight}
 use Rattle.ae_verilog.specs.NetlistModule.{netlist_module}
 use Rattle.ae_verilog.specs.Written.{IsWritableNetlist}
-use Rattle.ae_verilog.specs.ReportLines.{ReportTree, report_lines, is_clean}
+use Rattle.ae_verilog.specs.ReportLines.{ReportTree}
 use Rattle.ae_ops.specs.Blocks.{stream_of}
-use Rattle.ae_ports.specs.Ports.{streams_of, SizedPort, outlet_port, columns_in}
+use Rattle.ae_ports.specs.Ports.{streams_of, outlet_port, columns_in}
 use Rattle.ae_ports.specs.CircuitFor.{IsCircuitFor}
 use Rattle.ae_delay.specs.declared.own.OwnCosts.{OwnCosts}
 use Rattle.ae_lower.specs.Circuits.{last_of, results_of}
@@ -37,7 +32,6 @@ use Rattle.ae_correct.proofs.Keeps.{circuit_ports, ins_of, outs_of}
 use Rattle.ae_correct.proofs.Nets.{in_net, out_net, ports_filtered}
 use Rattle.ae_correct.proofs.Places.{columns_more, length_from}
 use Rattle.ae_verilog.specs.Notes.{NoteTree, lines_of, noted_module}
-use Rattle.ae_verilog.specs.Text.{whole_text}
 use Rattle.ae_compile.specs.Building.{IsModuleText, IsWritten}
 use Rattle.ae_compile.specs.Compiling.{IsCompiled}
 use Rattle.ae_compile.specs.declared.costs.Costs.{Costs}

@@ -1,11 +1,10 @@
 -- The program of an input, and why there is none.
-use Rattle.std.specs.Prelude.{◌≡◌, ℕ, Option, Some, None, List, slice_get}
-use Rattle.ae_seq.specs.ProgramTree.{FuncTree, ProgramTree}
+use Rattle.std.specs.Prelude.{◌≡◌, ℕ, Some, None, List}
+use Rattle.ae_seq.specs.ProgramTree.{ProgramTree}
 use Rattle.ae_seq.specs.Typing.{Judged, untyped, too_large, refused_line}
 use Rattle.ae_parse.specs.Grammar.{IsProgramText as Reads, bad_line}
 use Rattle.ae_compile.specs.declared.faults.CompileFault.{CompileFault}
 use Rattle.ae_compile.specs.declared.faults.CompileFault.TheVariants.{BadLine, BadType, TooLarge, Memory}
-use Rattle.ae_rewrite.specs.Interface.{main_of}
 
 -- the text is this program, and no line of it is refused
 pub record IsTypedText (part : List ℕ) (p : ProgramTree) : Type 0 where
@@ -17,14 +16,6 @@ pub record IsRefusedAt (part : List ℕ) (judged : Judged) : Type 0 where
   pub program : ProgramTree
   pub reads : Reads part program
   pub refused : refused_line program ≡ Some judged
-
--- where the program function begins
-abbrev pub line_of : Option FuncTree → ℕ
-line_of None = 0
-line_of (Some f) = f.line
-
-abbrev pub main_line : ProgramTree → ℕ
-main_line p = line_of (slice_get p.funcs (main_of p))
 
 -- the first bad line, or the first line that has no type, or whose type is too large; want of memory says nothing
 abbrev pub IsTypedFault : (part : List ℕ) → CompileFault → Type 0

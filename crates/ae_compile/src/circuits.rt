@@ -1,6 +1,6 @@
 // The circuit of a program, and what is told of it.
 
-ghost use Rattle.std.specs.Prelude.{◌≡◌, ◌<◌, ◌≤◌, ◌+◌, IfOk, Some, false, length, map, slice_get};
+ghost use Rattle.std.specs.Prelude.{◌≡◌, ◌<◌, IfOk, Some, false, length, map, slice_get};
 ghost use Rattle.ae_seq.specs.ProgramTree.{FuncTree, program_tree};
 ghost use Rattle.ae_rewrite.specs.StProgramTree.{StFuncTree as Tree, st_func_trees};
 ghost use Rattle.ae_rewrite.specs.Sound.{item_layouts};

@@ -1,15 +1,12 @@
 // The circuit of a program with an enable, and what is told of it.
 
-ghost use Rattle.std.specs.Prelude.{◌≡◌, ◌<◌, ◌≤◌, ℕ, IfOk, Some, length, map, slice_get};
-ghost use Rattle.ae_netlist.specs.Circuit.{Circuit};
+ghost use Rattle.std.specs.Prelude.{◌≡◌, ◌<◌, ◌≤◌, ℕ, IfOk, Some, map, slice_get};
 ghost use Rattle.ae_seq.specs.ProgramTree.{program_tree};
 ghost use Rattle.ae_rewrite.specs.StProgramTree.{st_func_trees};
 ghost use Rattle.ae_stall.specs.Images.{renumbered};
-ghost use Rattle.ae_stall.specs.Stalled.{IsStalled};
 ghost use Rattle.ae_stalled.specs.Laws.{stall_limit};
-ghost use Rattle.ae_compile.specs.Compiling.{IsMadeFor};
 ghost use Rattle.ae_compile.specs.Costing.{main_costs};
-ghost use Rattle.ae_compile.specs.Passes.{IsCostedProgram, IsStalledProgram};
+ghost use Rattle.ae_compile.specs.Passes.{IsStalledProgram};
 
 use crate::circuits::{circuit, notes, report};
 use crate::costing::Costed;

@@ -1,20 +1,18 @@
 -- Two circuits with the runs of one module are fed alike, and show the same words.
-use Rattle.std.proofs.Common.{ℕ, ◌≡◌, ◌+◌, ◌<◌, ◌^◌, List, [], length, map, get_or, Option, None, Some, All, slice_get, arith, refl, ap, sym, ◌∙◌, subst}
+use Rattle.std.proofs.Common.{ℕ, ◌≡◌, ◌+◌, ◌<◌, ◌^◌, List, [], length, map, get_or, Option, None, Some, slice_get, arith, refl, ap, sym, ◌∙◌, subst}
 use Rattle.std.specs.Prelude.{option_map}
 use Rattle.std.proofs.lemmas.List.{length-map}
 use Rattle.std.proofs.lemmas.List.Elements.{All-get_or}
 use Rattle.std.proofs.lemmas.List.Sums.{length-filter}
 use Rattle.std.proofs.lemmas.Option.{none-some, same_Some, slice_get-map}
-use Rattle.ae_sttype.specs.StTree.{StTree}
 use Rattle.ae_netlist.specs.declared.cell.SizedCell.{SizedCell}
 use Rattle.ae_netlist.specs.Circuit.{Circuit}
 use Rattle.ae_netlist.specs.Counts.{is_input, count_of, cells_of}
-use Rattle.ae_netlist.specs.Runs.{Clock}
-use Rattle.ae_netlist.specs.Rows.{AreFirsts, AreInputs, HasOneRunWith, IsRunWith, filled}
+use Rattle.ae_netlist.specs.Rows.{AreInputs, filled}
 use Rattle.ae_vread.specs.ModuleTree.{ModuleTree}
 use Rattle.ae_elab.specs.SameRuns.{BeginAlike, HasSameRuns, HaveEqualOutputs}
 use Rattle.ae_play.specs.Fed.{fed_rows}
-use Rattle.ae_play.specs.Lines.{clock_count, shown_words}
+use Rattle.ae_play.specs.Lines.{clock_count}
 use Rattle.ae_correct.specs.Laws.{FeedsAreAlike, RunsAreAlike}
 use Rattle.ae_correct.proofs.FedRows.{length_rows}
 use Rattle.ae_correct.proofs.FirstWords.{begins, net_begins}

@@ -19,7 +19,7 @@ use Rattle.ae_verilog.specs.NetlistModule.{port_name}
 use Rattle.ae_sttype.specs.StTree.{StTree}
 use Rattle.ae_ops.specs.Blocks.{stream_of, stream_widths}
 use Rattle.ae_eval.proofs.Items.{entry-at}
-use Rattle.ae_ports.specs.Ports.{streams_of, SizedPort, input_cell, outlet_port, ports_from, reset_port, stream_ports, columns_in}
+use Rattle.ae_ports.specs.Ports.{streams_of, SizedPort, input_cell, outlet_port, reset_port, stream_ports, columns_in}
 use Rattle.ae_rewrite.specs.Blocks.{outlet_net}
 use Rattle.ae_ports.specs.Ports as net_side
 use Rattle.ae_correct.specs.Correct.{param_ports, result_ports, name_of}

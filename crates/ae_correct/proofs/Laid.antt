@@ -1,7 +1,7 @@
 -- The layouts of a typed program's parameters and results: their sizes, and how many there are.
 use Rattle.std.proofs.Common.{ℕ, zero, suc, ◌≡◌, ◌<◌, ◌≤◌, List, [], ◌∷◌, length, map, Option, None, Some, IsTrue, slice_get, arith, refl, ap, sym, ◌∙◌, subst}
 use Rattle.std.proofs.lemmas.List.{length-map}
-use Rattle.std.proofs.lemmas.Option.{none-some, slice_get_within}
+use Rattle.std.proofs.lemmas.Option.{none-some}
 use Rattle.ae_seqtype.specs.SeqTree.{SeqTree, in_size}
 use Rattle.ae_seqtype.specs.ValueTree.{ValueTree}
 use Rattle.ae_sttype.specs.StTree.{StTree}

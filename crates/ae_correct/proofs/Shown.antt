@@ -1,5 +1,5 @@
 -- What a circuit shows of a run on blocks, its module shows.
-use Rattle.std.proofs.Common.{ℕ, zero, suc, All, ◌≡◌, ◌+◌, ◌*◌, ◌<◌, ◌≤◌, List, [], ◌∷◌, ◌++◌, length, map, take, get_or, Some, slice_get, arith, refl, ap, sym, ◌∙◌, subst}
+use Rattle.std.proofs.Common.{ℕ, zero, suc, All, ◌≡◌, ◌+◌, ◌*◌, ◌<◌, ◌≤◌, List, [], length, map, take, get_or, Some, slice_get, arith, refl, ap, sym, ◌∙◌, subst}
 use Rattle.std.specs.Prelude.{codes}
 use Rattle.std.proofs.lemmas.List.Elements.{All-get_or}
 use Rattle.std.proofs.lemmas.Nat.{row_fits}

@@ -1,5 +1,5 @@
 -- One instance after the other.
-use Rattle.std.proofs.Common.{ℕ, ◌≡◌, ◌+◌, ◌-◌, ◌<◌, ◌≤◌, inl, inr, true, false, nat_lt, List, [], ◌∷◌, ◌++◌, length, map, take, sum_by, Option, Some, slice_get, arith, refl, sym, ap, ◌∙◌, subst, length-append, ◌⊎◌}
+use Rattle.std.proofs.Common.{ℕ, ◌≡◌, ◌+◌, ◌-◌, ◌<◌, ◌≤◌, inl, inr, false, nat_lt, List, [], ◌∷◌, ◌++◌, length, map, take, sum_by, Option, Some, slice_get, arith, refl, sym, ap, ◌∙◌, subst, length-append, ◌⊎◌}
 use Rattle.std.proofs.lemmas.Bool.{cases_eq, cases_lt}
 use Rattle.std.proofs.lemmas.List.{length-map, length-take-le}
 use Rattle.std.proofs.lemmas.List.Sums.{sum_by-append, sum_by-cons}
@@ -47,14 +47,6 @@ known_more known costs o c h own = record {
     ]
   ];
 }
-
-pub nothing_known : AreKnown [] []
-nothing_known = record { long = refl; each = λ i o c f g. cc }
-
--- ---- a load that passes the limit
-
-lt_from : (a b : ℕ) → nat_lt a b ≡ true → a < b
-lt_from a b t = search (arith)
 
 passed : (limit sum : ℕ) (ls : List LineLoad) (l : LineLoad) → first_over limit sum ls ≡ Some l → limit < sum + sum_by (λ (x : LineLoad). x.load) ls
 passed limit sum [] l h = cc
@@ -116,9 +108,6 @@ told_more told instances k s old new f h more = record {
     | inr ne ↦ rw more.added (get_in_front old (more.own ∷ []) j (told (all_costs (take j instances)) u) (h.each j u (omega arith) g light))
   ];
 }
-
-pub nothing_told : (told : List OwnCosts → StFuncTree → List ℕ) (instances : List StFuncTree) → AreToldFirst told 0 instances []
-nothing_told told instances = record { long = refl; each = λ k s l f light. absurd (omega arith) }
 
 pub light_cost : (s : StFuncTree) (ts : List NodeTiming) (limit : ℕ) (t : FuncTiming) → limit ≡ 999999999 → IsTimed s ts limit t
     → (t.costs ≡ func_costs_by s ts) × IsBounded t.costs × (t.costs.load < 1000000000)

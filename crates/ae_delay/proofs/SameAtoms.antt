@@ -1,5 +1,5 @@
 -- Atoms that are told to be the same are.
-use Rattle.std.proofs.Common.{ℕ, ◌≡◌, ◌&&◌, ◌==◌, ◌∙◌, Bool, true, false, refl, ap}
+use Rattle.std.proofs.Common.{ℕ, ◌≡◌, ◌==◌, ◌∙◌, Bool, true, false, refl, ap}
 use Rattle.std.proofs.lemmas.Bool.{eqb-true}
 use Rattle.ae_word.specs.AtomTree.{AtomTree, WordKind, word, pair, same_atom, same_kind, same_sign}
 use Rattle.ae_moves.proofs.Held.{both}

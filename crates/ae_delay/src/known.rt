@@ -1,6 +1,6 @@
 // Moves that were weighed before.
 
-ghost use Rattle.std.specs.Prelude.{◌≡◌, ◌<◌, ◌≤◌, ◌⊎◌, ℕ, IfOk, IsTrue, Some};
+ghost use Rattle.std.specs.Prelude.{◌≡◌, ◌<◌, ◌≤◌, ◌⊎◌, IfOk, IsTrue, Some};
 ghost use Rattle.ae_sttype.specs.StTree.{element_atom, st_atoms, st_tree, time};
 ghost use Rattle.ae_sttype.specs.Size.{IsInSize};
 ghost use Rattle.ae_rewrite.specs.Sound.{IsMoveFrom};

@@ -1,6 +1,6 @@
 // The origins of the words of a move, and what it costs.
 
-ghost use Rattle.std.specs.Prelude.{◌≡◌, ◌<◌, ◌≤◌, ◌*◌, ◌/◌, ◌%◌, [], ◌∷◌, ℕ, length, map, sum_by, IfOk, Some, slice_get};
+ghost use Rattle.std.specs.Prelude.{◌≡◌, ◌<◌, ◌≤◌, ◌*◌, ◌/◌, ◌%◌, [], ℕ, length, map, sum_by, IfOk, Some, slice_get};
 ghost use Rattle.ae_sttype.specs.StTree.{element_atom, element_words, st_atoms, st_tree, time};
 ghost use Rattle.ae_sttype.specs.Size.{IsInSize};
 ghost use Rattle.ae_sttype.specs.Moves.{columns_of, first_column};

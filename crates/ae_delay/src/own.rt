@@ -1,13 +1,10 @@
 // What a node costs by itself, apart from the delays before it.
 
-ghost use Rattle.std.specs.Prelude.{◌≡◌, ◌<◌, ◌≤◌, ◌+◌, ◌-◌, ◌*◌, ◌^◌, ℕ, length, IfOk, Some, slice_get};
-ghost use Rattle.ae_sttype.specs.StTree.{element_atom, st_atoms, st_tree, time};
+ghost use Rattle.std.specs.Prelude.{◌≡◌, ◌<◌, ◌≤◌, ◌+◌, ◌-◌, ◌*◌, ◌^◌};
+ghost use Rattle.ae_sttype.specs.StTree.{st_tree, time};
 ghost use Rattle.ae_sttype.specs.Size.{IsInSize};
 ghost use Rattle.ae_moves.specs.Rings.{rings};
-ghost use Rattle.ae_rewrite.specs.declared.st_program.MoveOp.TheVariants.{Same};
-ghost use Rattle.ae_rewrite.specs.StProgramTree.{st_op_tree};
 ghost use Rattle.ae_rewrite.specs.Sound.{IsSpread};
-ghost use Rattle.ae_delay.specs.Moving.{costs_of_move, op_move};
 ghost use Rattle.ae_delay.specs.OwnCosts.{body_costs, constant_costs, fold_costs, inner_time, log_up, moved_costs, scan_costs, where_many, where_mul, wire_costs, word_costs};
 ghost use Rattle.ae_delay.specs.Bounds.{AreSmall, IsBounded};
 

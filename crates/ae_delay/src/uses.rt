@@ -1,6 +1,6 @@
 // The uses of items, and the delays before them.
 
-ghost use Rattle.std.specs.Prelude.{◌≡◌, ◌<◌, ◌≤◌, ◌*◌, ℕ, length};
+ghost use Rattle.std.specs.Prelude.{◌≡◌, ◌<◌, ◌≤◌, ◌*◌, length};
 ghost use Rattle.ae_sttype.specs.StTree.{st_tree};
 ghost use Rattle.ae_sttype.specs.Moves.{columns_of};
 ghost use Rattle.ae_rewrite.specs.StProgramTree.{st_func_tree};

@@ -2,7 +2,6 @@
 
 ghost use Rattle.std.specs.Prelude.{◌≡◌, ◌<◌, ◌≤◌, ◌+◌, ◌*◌, ℕ, List, [], length, sum_by, ◌++◌, ◌∷◌, IfOk, Some, None, slice_get, get_or};
 ghost use Rattle.std.specs.List.{range_with_len};
-ghost use Rattle.ae_sttype.specs.StTree.{st_tree};
 ghost use Rattle.ae_sttype.specs.Moves.{columns_of};
 ghost use Rattle.ae_moves.specs.Rings.{rings};
 ghost use Rattle.ae_rewrite.specs.StProgramTree.{st_func_tree, st_node_tree};

@@ -1,12 +1,10 @@
 -- A move in few clocks and of few words costs little.
-use Rattle.std.proofs.Common.{ℕ, zero, suc, ◌≡◌, ◌+◌, ◌-◌, ◌*◌, ◌/◌, ◌%◌, ◌<◌, ◌≤◌, Bool, true, false, cond, nat_eq, List, [], ◌∷◌, length, filter, sum_by, Some, slice_get, get_or, arith}
-use Rattle.std.specs.List.{range_with_len}
+use Rattle.std.proofs.Common.{ℕ, suc, ◌≡◌, ◌+◌, ◌-◌, ◌*◌, ◌/◌, ◌<◌, ◌≤◌, Bool, true, false, cond, nat_eq, List, [], ◌∷◌, length, filter, sum_by, Some, slice_get, get_or, arith}
 use Rattle.std.proofs.lemmas.List.{length-map}
-use Rattle.std.proofs.lemmas.List.Sums.{length-filter, count_by-le-length, sum_by-cons}
 use Rattle.std.proofs.lemmas.List.FromFn.{length-map-range_with_len}
 use Rattle.std.proofs.lemmas.Nat.{div_below}
 use Rattle.ae_sttype.specs.StTree.{time, st_atoms, element_words}
-use Rattle.ae_sttype.specs.Moves.{ChoiceTree, SourceTree, TripTree, place, constant, fixed, age_from, changes_after, choices_of, column_delay, column_runs, columns_of, lead_from, same_choice, slot_number, stretches, trip_number}
+use Rattle.ae_sttype.specs.Moves.{ChoiceTree, SourceTree, TripTree, place, constant, fixed, age_from, changes_after, choices_of, column_delay, column_runs, columns_of, lead_from, same_choice, slot_number, trip_number}
 use Rattle.ae_sttype.proofs.Places.{slot_below}
 use Rattle.ae_moves.specs.Origins.{IsMove, Move, move_latency, move_trips}
 use Rattle.ae_moves.proofs.Words.{lead_le, origin_at, source_lead, words_pos}

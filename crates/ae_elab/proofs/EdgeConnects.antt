@@ -19,7 +19,7 @@ use Rattle.ae_elab.specs.Declaring.{IsUnconnected, is_state}
 use Rattle.ae_elab.specs.Connecting.{Connects}
 use Rattle.ae_assign.specs.Edges.{FitsNext, IsConnected, KeepsConstants, OthersStay}
 use Rattle.ae_assign.specs.declared.statements.Next.{Next}
-use Rattle.ae_assign.specs.declared.statements.Next.TheVariants.{Keep, Word, Write}
+use Rattle.ae_assign.specs.declared.statements.Next.TheVariants.{Word, Write}
 
 inputs_set : (k : ℕ) (cells : List SizedCell) (r : ℕ) (x y : SizedCell) → slice_get cells r ≡ Some x → is_input_cell x.cell ≡ false
     → is_input_cell y.cell ≡ false
@@ -96,15 +96,6 @@ connects_trans from a b c p q = record {
   outlets = q.outlets ∙ p.outlets;
 }
 
--- what was not connected and takes nothing new
-pub still_connected : (k : NetKind) (cells : List SizedCell) (net w : ℕ) → IsUnconnected k cells net w → IsConnected k cells net w Keep
-still_connected Input cells net w h = tt
-still_connected Wire cells net w h = tt
-still_connected OutWire cells net w h = tt
-still_connected RegName cells net w h = h
-still_connected OutReg cells net w h = h
-still_connected (Memory depth) cells net w h = h
-
 -- a register that is not connected
 pub register_there : (k : NetKind) (cells : List SizedCell) (net w : ℕ) → is_register_kind k ≡ true → IsUnconnected k cells net w
     → slice_get cells net ≡ Some (new_register net w)
@@ -132,16 +123,6 @@ pub record IsJoined (from : ℕ) (x : NetTree) (old new : Circuit) (net : ℕ) (
   pub others : OthersStay old.cells new.cells net
   pub stays : is_state x ≡ false → new ≡ old
   pub connected : IsConnected x.kind new.cells net x.width k
-
-pub keep_joined : (from : ℕ) (x : NetTree) (old : Circuit) (net : ℕ) → IsUnconnected x.kind old.cells net x.width → IsJoined from x old old net Keep
-keep_joined from x old net h = record {
-  connects = connects_refl from old;
-  long = refl;
-  constants = λ n b g. g;
-  others = λ n other. refl;
-  stays = λ f. refl;
-  connected = still_connected x.kind old.cells net x.width h;
-}
 
 pub word_joined : (from : ℕ) (x : NetTree) (old new : Circuit) (net : ℕ) (y : NetId) → IsUnconnected x.kind old.cells net x.width
     → (is_state x ≡ true → net < from) → FitsNext old.cells x (Word y)

@@ -1,6 +1,6 @@
 // The nets of inputs, registers and memories.
 
-ghost use Rattle.std.specs.Prelude.{ℕ, ◌≡◌, ◌≤◌, ◌+◌, [], length, IfOk, OnOk, Some, option_map};
+ghost use Rattle.std.specs.Prelude.{ℕ, ◌≡◌, ◌≤◌, [], length, IfOk, OnOk, Some};
 ghost use Rattle.ae_vread.specs.declared.module.NetKind.TheVariants.{Memory};
 ghost use Rattle.ae_vread.specs.View.{module_tree};
 ghost use Rattle.ae_netlist.specs.Circuit.{new_memory, new_register};

@@ -1,6 +1,6 @@
 // The outputs of a module.
 
-ghost use Rattle.std.specs.Prelude.{◌≡◌, ◌<◌, ◌-◌, ◌^◌, ◌++◌, ◌∷◌, [], ℕ, length, map, true, OnOk, slice_get, Some};
+ghost use Rattle.std.specs.Prelude.{◌≡◌, ◌<◌, ◌-◌, ◌^◌, ◌++◌, ◌∷◌, [], ℕ, length, map, true, OnOk, Some};
 ghost use Rattle.ae_vread.specs.ModuleTree.{NetTree};
 ghost use Rattle.ae_vread.specs.View.{module_tree};
 ghost use Rattle.ae_netlist.specs.declared.cell.NetId.{NetId};

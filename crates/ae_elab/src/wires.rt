@@ -1,6 +1,6 @@
 // The nets of wires.
 
-ghost use Rattle.std.specs.Prelude.{◌≡◌, ◌<◌, ◌≤◌, ◌+◌, ◌*◌, ℕ, List, Some, length, map, option_map, slice_get, slice_set, IfOk, OnOk};
+ghost use Rattle.std.specs.Prelude.{◌≡◌, ◌<◌, ◌≤◌, ◌+◌, ◌*◌, Some, length, map, option_map, slice_get, slice_set, OnOk};
 ghost use Rattle.std.specs.List.{sum_by};
 ghost use Rattle.ae_vread.specs.ModuleTree.{NetTree};
 ghost use Rattle.ae_vread.specs.View.{expr_tree, module_tree};

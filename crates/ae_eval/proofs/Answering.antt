@@ -1,7 +1,7 @@
 -- Values that go in and come out.
 use Rattle.std.proofs.Common.{◌≡◌, ℕ, suc, ◌+◌, ◌<◌, ◌≤◌, List, [], ◌∷◌, ◌++◌, length, take, drop, map, get_or, Option, Some, None, slice_get, refl, arith, sym, ap, ◌∙◌, subst, append-nil}
 use Rattle.std.specs.List.{concat}
-use Rattle.std.proofs.lemmas.List.{length-map, map-append, take_more, take_all, drop_all}
+use Rattle.std.proofs.lemmas.List.{length-map, map-append, take_more, take_all}
 use Rattle.std.proofs.lemmas.List.Folds.{concat-append}
 use Rattle.std.proofs.lemmas.Option.{get_or_from_slice_get, slice_get-map, slice_get_read}
 use Rattle.std.specs.Option.{option_map}
@@ -161,9 +161,6 @@ pub record Fitting (ts : List SeqTree) (wss : List (List ℕ)) (i : ℕ) : Type 
   pub later : AllFit (drop i ts) (drop i wss) → AllFit ts wss
   pub earlier : AllFit ts wss → AllFit (drop i ts) (drop i wss)
 
-pub fitting-first : (ts : List SeqTree) (wss : List (List ℕ)) → Fitting ts wss 0
-fitting-first ts wss = record { later = λ h. h; earlier = λ h. h }
-
 pub fitting-next : (ts : List SeqTree) (wss : List (List ℕ)) (i : ℕ) (t : SeqTree) (ws : List ℕ) → slice_get ts i ≡ Some t → slice_get wss i ≡ Some ws
     → Fit t ws → Fitting ts wss i → Fitting ts wss (i + 1)
 fitting-next ts wss i t ws h g fit f =
@@ -184,12 +181,6 @@ fitting-not ts wss i t ws h g not f all =
     let P : List SeqTree → Type 0 = λ zs. AllFit zs (drop i wss) in
     let Q : List (List ℕ) → Type 0 = λ zs. AllFit (t ∷ drop (i + 1) ts) zs in
     not (subst Q b (subst P a (f.earlier all))).0
-
-pub fitting-last : (ts : List SeqTree) (wss : List (List ℕ)) (i : ℕ) → length ts ≡ length wss → length wss ≤ i → Fitting ts wss i → AllFit ts wss
-fitting-last ts wss i e over f =
-    let P : List SeqTree → Type 0 = λ zs. AllFit zs (drop i wss) in
-    let Q : List (List ℕ) → Type 0 = λ zs. AllFit [] zs in
-    f.later (subst P (sym (drop_all i ts (omega arith))) (subst Q (sym (drop_all i wss over)) tt))
 
 pub all-fit-count : (ts : List SeqTree) (wss : List (List ℕ)) → AllFit ts wss → length ts ≡ length wss
 all-fit-count [] [] h = refl
@@ -218,7 +209,3 @@ read-unfit ts xs wss i x ws e count lt ex ew not f =
 
 pub read-count : (ts : List SeqTree) (xs : List Param) (wss : List (List ℕ)) → types_of_params (param_trees xs) ≡ ts → AllFit ts wss → length xs ≡ length wss
 read-count ts xs wss e h = sym (param-count xs) ∙ ap length e ∙ all-fit-count ts wss h
-
-pub read-last : (ts : List SeqTree) (xs : List Param) (wss : List (List ℕ)) (i : ℕ) → types_of_params (param_trees xs) ≡ ts → length xs ≡ length wss
-    → length wss ≤ i → Fitting ts wss i → AllFit ts wss
-read-last ts xs wss i e count over f = fitting-last ts wss i (sym (ap length e) ∙ param-count xs ∙ count) over f

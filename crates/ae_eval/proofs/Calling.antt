@@ -79,11 +79,6 @@ nodes-count p k ns e = sym (ap length e) ∙ length-map ns node_tree
 
 -- ---- a call
 
-pub evaluated-above : (p : ProgramTree) (k base : ℕ) (old now : List ℕ) → base ≤ length old → Evaluated p k base old now → base ≤ length now
-evaluated-above p k base old now above e =
-    let a = ap length e.kept in
-    omega (arith, a, length-take base now, length-take base old)
-
 at-first : (g : ℕ → ValueTree) (xs : List ℕ) (r : ℕ) → slice_get xs 0 ≡ Some r → at (map g xs) 0 ≡ g r
 at-first g [] r h = cc
 at-first g (x ∷ xs) r h = let same : x ≡ r = cc in ap g same

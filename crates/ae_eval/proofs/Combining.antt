@@ -2,14 +2,14 @@
 use Rattle.std.proofs.Common.{◌≡◌, ℕ, zero, suc, ◌+◌, ◌-◌, ◌*◌, ◌%◌, ◌<◌, ◌≤◌, ◌^◌, List, [], ◌∷◌, ◌++◌, length, take, drop, get_or, Some, IsSome, slice_get, refl, arith, sym, ap, ◌∙◌, append_assoc, length-append, ⊎_elim}
 use Rattle.std.proofs.lemmas.List.{take_all, get_or_append_left, get_or-drop}
 use Rattle.std.proofs.lemmas.Bool.{cases_lt}
-use Rattle.std.proofs.Math.Nat.{mod-eq-sub-mod, mod-eq_of_lt, zero-add, suc-add, zero-mul}
+use Rattle.std.proofs.Math.Nat.{mod-eq-sub-mod, mod-eq_of_lt}
 use Rattle.ae_word.specs.declared.op.WordOp.{WordOp}
 use Rattle.ae_word.specs.AtomTree.{WordKind, atom_words, atom_kinds}
 use Rattle.ae_word.proofs.Sizes.{length-atom_kinds}
 use Rattle.ae_seqtype.specs.SeqTree.{SeqTree, atom, seq, words, kinds, repeated, atoms, atom_of}
 use Rattle.ae_seqtype.specs.ValueTree.{FitKinds}
 use Rattle.ae_seqtype.proofs.Sizes.{length-kinds, one-atom_words}
-use Rattle.ae_seqtype.proofs.Stands.{length-Fit, repeated-one, repeated-add, repeated-mul}
+use Rattle.ae_seqtype.proofs.Stands.{length-Fit, repeated-one, repeated-mul}
 use Rattle.ae_seq.specs.Meaning.{coded}
 use Rattle.ae_eval.specs.Stack.{FitAt, window, combined}
 use Rattle.ae_eval.proofs.Zips.{words-atoms}

@@ -1,5 +1,5 @@
 -- Values that stand one after another, one more for each node.
-use Rattle.std.proofs.Common.{◌≡◌, ℕ, zero, suc, ◌+◌, ◌<◌, ◌≤◌, List, [], ◌∷◌, ◌++◌, length, take, drop, map, Option, Some, None, slice_get, refl, arith, sym, ap, ◌∙◌, subst, length-append, length-take, length-drop, append_assoc, append-nil}
+use Rattle.std.proofs.Common.{◌≡◌, ℕ, zero, suc, ◌+◌, ◌≤◌, List, [], ◌∷◌, ◌++◌, length, take, drop, map, Option, Some, None, slice_get, refl, arith, sym, ap, ◌∙◌, subst, length-append, length-take, length-drop, append_assoc, append-nil}
 use Rattle.std.specs.Option.{option_map}
 use Rattle.std.proofs.lemmas.List.{map-append, length-map, take-append-drop, take_more, take_all, take-append-le, drop-append-le, drop-drop}
 use Rattle.std.proofs.lemmas.Option.{slice_get-map, slice_get_within, get_or_from_slice_get}
@@ -154,14 +154,6 @@ frame-step sigs known ts vs base n old now new l rest h f p =
       types = s.later;
       values = ap (λ xs. grown (node_value known) xs rest) value ∙ f.values;
     }
-
-pub frame-fine : (sigs : List Signature) (known : List Meaning) (ts : List SeqTree) (vs : List ValueTree) (base n : ℕ) (old now : List ℕ) (l : NodeTree)
-    (rest : List NodeTree)
-    → n ≤ length ts → Framed sigs known ts vs base n old now (l ∷ rest) → (n < length ts)
-    × (node_type sigs (map (λ (t : SeqTree). Some t) (take n ts)) l ≡ slice_get ts n)
-frame-fine sigs known ts vs base n old now l rest h f =
-    let s = types-step sigs ts n l rest h f.types in
-    (slice_get_within ts n s.type s.own, s.node_is ∙ sym s.own)
 
 pub same-somes : (us vs : List SeqTree) → map (λ (t : SeqTree). Some t) us ≡ map (λ (t : SeqTree). Some t) vs → us ≡ vs
 same-somes [] [] e = refl

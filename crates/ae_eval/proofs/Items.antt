@@ -1,6 +1,5 @@
 -- What is known of the lines of a typed program.
 use Rattle.std.proofs.Common.{◌≡◌, ℕ, zero, suc, ◌+◌, ◌*◌, ◌<◌, ◌≤◌, ◌==◌, ◌&&◌, nat_le, nat_lt, Bool, true, false, List, [], ◌∷◌, ◌++◌, length, take, drop, map, get_or, Option, Some, None, IsTrue, slice_get, All, refl, arith, sym, ap, ◌∙◌, subst, length-append, append_assoc}
-use Rattle.std.specs.Option.{option_map}
 use Rattle.std.proofs.lemmas.List.{length-map, take-take, take_all, drop_more}
 use Rattle.std.proofs.lemmas.Option.{slice_get-map, slice_get_within, get_or_from_slice_get}
 use Rattle.std.proofs.lemmas.Bool.Decides.{nat_tests}
@@ -175,10 +174,6 @@ call-facts p k c us u h below known e =
     }
 
 -- ---- the meanings of the functions above
-
--- what a function above means, and what it is by its items
-pub first-meanings : (p : ProgramTree) (k c : ℕ) → c < k → slice_get (take k (meanings p.funcs)) c ≡ slice_get (meanings p.funcs) c
-first-meanings p k c h = slice_get-take k c (meanings p.funcs) h
 
 pub meaning-of : (p : ProgramTree) (k : ℕ) (f : FuncTree) → slice_get p.funcs k ≡ Some f
     → slice_get (meanings p.funcs) k ≡ Some (meaning (take k (meanings p.funcs)) f)

@@ -1,5 +1,5 @@
 -- Operators that only move words.
-use Rattle.std.proofs.Common.{◌≡◌, ℕ, zero, suc, ◌+◌, ◌-◌, ◌*◌, ◌<◌, ◌≤◌, ◌==◌, nat_le, nat_lt, Bool, true, false, List, [], ◌∷◌, ◌++◌, length, take, drop, map, replicate, Option, Some, IsSome, refl, arith, sym, ap, ◌∙◌, subst, append_assoc, length-take}
+use Rattle.std.proofs.Common.{◌≡◌, ℕ, zero, suc, ◌+◌, ◌-◌, ◌*◌, ◌<◌, ◌≤◌, ◌==◌, nat_le, nat_lt, Bool, true, false, List, ◌++◌, length, take, drop, map, replicate, Option, Some, IsSome, refl, arith, sym, ap, ◌∙◌, subst, append_assoc, length-take}
 use Rattle.std.proofs.lemmas.List.{take_all, take-append-drop, length-map, take-take, drop-drop, drop-take}
 use Rattle.std.proofs.lemmas.Bool.Decides.{nat_tests}
 use Rattle.std.proofs.Math.Nat.{mul-le-mul_right}
@@ -7,7 +7,7 @@ use Rattle.std.proofs.Math.Seq.{drop-append_seam, take-append_seam}
 use Rattle.ae_word.specs.AtomTree.{AtomTree, pair, atom_words, atom_kinds}
 use Rattle.ae_word.proofs.Sizes.{length-atom_kinds}
 use Rattle.ae_seqtype.specs.SeqTree.{SeqTree, atom, seq, words, kinds, repeated}
-use Rattle.ae_seqtype.specs.ValueTree.{ValueTree, both, more, listed, elements, zeroed, value_of, cut, Fit, Stands}
+use Rattle.ae_seqtype.specs.ValueTree.{ValueTree, both, listed, elements, value_of, cut, Fit, Stands}
 use Rattle.ae_seqtype.proofs.Cuts.{length-cut}
 use Rattle.ae_seqtype.proofs.Values.{elements-listed}
 use Rattle.ae_seqtype.proofs.Stands.{length-Fit, FitKinds-append, FitKinds-split, elements-value_of, Stands-append, Stands-take, Stands-drop, Stands-zeroed, Stands-cut, Stands-repeated, repeated-one, zeros, zeros-replicate, stands, zeroed-listed}
@@ -178,9 +178,6 @@ pair-pushed s z k l start place old mid new ek el h g e f =
     ap (λ ys. (old ++ u) ++ ys) (window-append place (words z) old u room) ∙ append_assoc old u v in
     pushed-on _ old new _ _ all (join_for s z u v h.fits g.fits)
 
-pub fst-room : (s : SeqTree) (a b : AtomTree) (k start : ℕ) (old : List ℕ) → s ≡ atom (pair a b) → k ≡ atom_words a → FitAt s start old → start + k ≤ length old
-fst-room s a b k start old es ek h = let r = rw es at h.room in omega arith
-
 pub fst-pushed : (s : SeqTree) (a b : AtomTree) (k start : ℕ) (old new : List ℕ) → s ≡ atom (pair a b) → k ≡ atom_words a → FitAt s start old → new ≡ old
     ++ take k (drop start old)
     → Pushed (fst_type s) old new (first_part (value_of s (window s start old)))
@@ -193,10 +190,6 @@ fst-pushed s a b k start old new es ek h e =
     sym (take-take (atom_words a) (atom_words a + atom_words b) (drop start old) (omega arith)) in
     let one : Stands (atom a) (take (atom_words a) ws) (value_of (atom a) (take (atom_words a) ws)) = record { fits = rw size at split.0; value = refl } in
     rw es (pushed-on (Some (atom a)) old new _ _ (e ∙ ap (λ ys. old ++ ys) r) (λ u q. let same : atom a ≡ u = cc in rw (← same) one))
-
-pub snd-room : (s : SeqTree) (a b : AtomTree) (k l start : ℕ) (old : List ℕ) → s ≡ atom (pair a b) → k ≡ atom_words a → l ≡ atom_words b → FitAt s start old
-    → start + k + l ≤ length old
-snd-room s a b k l start old es ek el h = let r = rw es at h.room in omega arith
 
 pub snd-pushed : (s : SeqTree) (a b : AtomTree) (k l start : ℕ) (old new : List ℕ) → s ≡ atom (pair a b) → k ≡ atom_words a → l ≡ atom_words b
     → FitAt s start old → new ≡ old ++ take l (drop (start + k) old)
@@ -221,14 +214,6 @@ select_core c m t ws h =
     let size : 1 * words t ≡ words t = omega arith in
     let P : List ValueTree → Type 0 = λ zs. Stands (seq 1 t) (take (words t) (drop (c * words t) ws)) (listed (take 1 zs)) in
     subst P (elements-listed _) (rw size at one)
-
-pub select-room : (c n k start : ℕ) (s t : SeqTree) (old : List ℕ) → s ≡ seq n t → k ≡ words t → IsSome (select_type c s) → FitAt s start old
-    → start + c * k + k ≤ length old
-select-room c n k start s t old es ek there h =
-    let within : c < n = grind (arith, nat_tests, where_ok-there (nat_lt c n) (Some (seq 1 t)) (rw es at there)) in
-    let r = rw es at h.room in
-    let e = piece-ends n c (words t) within in
-    rw ek (omega arith)
 
 pub select-pushed : (c n k start : ℕ) (s t : SeqTree) (old new : List ℕ) → s ≡ seq n t → k ≡ words t → IsSome (select_type c s) → FitAt s start old → new ≡ old
     ++ take k (drop (start + c * k) old)

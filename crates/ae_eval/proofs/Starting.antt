@@ -1,5 +1,5 @@
 -- Where items begin.
-use Rattle.std.proofs.Common.{◌≡◌, ℕ, zero, suc, ◌+◌, ◌*◌, ◌<◌, ◌≤◌, List, [], ◌∷◌, ◌++◌, length, take, map, get_or, Option, Some, IsTrue, slice_get, refl, arith, sym, ap, ◌∙◌, length-append, Vec}
+use Rattle.std.proofs.Common.{◌≡◌, ℕ, zero, suc, ◌+◌, ◌*◌, ◌<◌, ◌≤◌, List, [], ◌∷◌, ◌++◌, length, take, map, get_or, Option, Some, IsTrue, slice_get, refl, arith, sym, ap, ◌∙◌, Vec}
 use Rattle.std.proofs.lemmas.List.{length-map, take_more, take_all}
 use Rattle.std.proofs.lemmas.Option.{slice_get_within, get_or_from_slice_get}
 use Rattle.std.specs.declared.alloc.Global.{Global}
@@ -7,8 +7,8 @@ use Rattle.ae_seq.proofs.Types.{slice_get-view}
 use Rattle.std.proofs.lemmas.Bool.Decides.{nat_tests}
 use Rattle.ae_seqtype.specs.SeqTree.{SeqTree, words, in_size}
 use Rattle.ae_seq.specs.ProgramTree.{FuncTree, ProgramTree}
-use Rattle.ae_seq.specs.Formed.{func_lines, item_count}
-use Rattle.ae_seq.specs.Typing.{grown, node_type, param_types, signatures}
+use Rattle.ae_seq.specs.Formed.{item_count}
+use Rattle.ae_seq.specs.Typing.{node_type, param_types, signatures}
 use Rattle.ae_eval.specs.Stack.{IsTyped, starts_from, starts_of, types_in, words_of}
 use Rattle.ae_eval.proofs.Accepting.{func-types}
 use Rattle.ae_seq.proofs.Items.{length-grown}
@@ -41,11 +41,6 @@ count-items p k f h e =
     let a = simp length-map at (ap length r.all) in
     let b = simp length-map at (length-grown (node_type (signatures (take k p.funcs))) (map Some (param_types f)) f.nodes) in
     omega (arith, a, b)
-
-pub lines-at : (fs : List FuncTree) (k : ℕ) (f : FuncTree) → slice_get fs k ≡ Some f → 2 + length f.nodes ≤ func_lines fs
-lines-at [] k f h = cc
-lines-at (g ∷ fs) zero f h = let same : g ≡ f = cc in rw (← same) (omega arith)
-lines-at (g ∷ fs) (suc k) f h = omega (arith, lines-at fs k f h)
 
 -- one more item and its end
 pub starts-push : (a : ℕ) (ts : List SeqTree) (t : SeqTree) → starts_from a (ts ++ t ∷ []) ≡ starts_from a ts ++ (a + words_of ts + words t) ∷ []

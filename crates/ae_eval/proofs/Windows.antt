@@ -1,6 +1,6 @@
 -- Parts of a list that grows.
-use Rattle.std.proofs.Common.{◌≡◌, ℕ, zero, suc, ◌+◌, ◌-◌, ◌*◌, ◌<◌, ◌≤◌, List, [], ◌∷◌, ◌++◌, length, take, drop, get_or, arith, sym, ap, ◌∙◌, append_assoc, length-append, length-drop, Option}
-use Rattle.std.proofs.lemmas.List.{append-nil, take-append-le, drop-append-le, take-take, drop-drop, drop-take, take_more, get_or_append_left, get_or-drop}
+use Rattle.std.proofs.Common.{◌≡◌, ℕ, zero, suc, ◌+◌, ◌-◌, ◌*◌, ◌<◌, ◌≤◌, List, ◌++◌, length, take, drop, arith, sym, ap, ◌∙◌, append_assoc, length-append, length-drop, Option}
+use Rattle.std.proofs.lemmas.List.{append-nil, take-append-le, drop-append-le, take-take, drop-drop, drop-take}
 use Rattle.std.proofs.Math.Seq.{drop-append_seam, take-append_seam}
 use Rattle.std.proofs.Math.Nat.{mul-le-mul_right, zero-mul}
 use Rattle.ae_seqtype.specs.SeqTree.{SeqTree, repeated}
@@ -21,17 +21,6 @@ window-inside s i c n ws h =
     let one : drop i (take n (drop s ws)) ≡ take (n - i) (drop i (drop s ws)) = ap (λ j. drop i (take j (drop s ws))) (sym sum) ∙
     drop-take i (n - i) (drop s ws) in
     ap (take c) one ∙ take-take c (n - i) (drop i (drop s ws)) (omega arith) ∙ ap (take c) (drop-drop i s ws)
-
-pub copy-step : (old now : List ℕ) (s c i x : ℕ) → s + c ≤ length old → i < c → now ≡ old ++ take i (drop s old) → x ≡ get_or now (s + i) x → now ++ x
-    ∷ [] ≡ old ++ take (i + 1) (drop s old)
-copy-step old now s c i x h lt e r =
-    let own : get_or (drop s old) i x ≡ x = get_or-drop s old i x ∙ sym (get_or_append_left old (take i (drop s old)) x (s + i) (omega arith)) ∙
-    ap (λ ys. get_or ys (s + i) x) (sym e) ∙ sym r in
-    let more = take_more (drop s old) i x (omega (arith, length-drop s old)) ∙ ap (λ y. take i (drop s old) ++ y ∷ []) own in
-    ap (λ ys. ys ++ x ∷ []) e ∙ append_assoc old (take i (drop s old)) (x ∷ []) ∙ ap (λ ys. old ++ ys) (sym more)
-
-pub room-step : (old now : List ℕ) (s c i : ℕ) → s + c ≤ length old → i < c → now ≡ old ++ take i (drop s old) → s + i < length now
-room-step old now s c i h lt e = rw e (let l = length-append old (take i (drop s old)) in omega (arith, l))
 
 pub copies-step : (old now new : List ℕ) (s c i : ℕ) → s + c ≤ length old → now ≡ old ++ repeated i (take c (drop s old)) → new ≡ now ++ take c (drop s now)
     → new ≡ old ++ repeated (i + 1) (take c (drop s old))

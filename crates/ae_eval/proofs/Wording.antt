@@ -1,16 +1,16 @@
 -- Operators on words: their kinds, and what they push.
-use Rattle.std.proofs.Common.{◌≡◌, ℕ, zero, suc, ◌+◌, ◌^◌, ◌<◌, ◌≤◌, ◌==◌, Bool, true, false, ◌&&◌, List, [], ◌∷◌, ◌++◌, take, drop, get_or, length, Option, Some, None, IsSome, IsTrue, slice_get, refl, arith, sym, ap, ◌∙◌, subst}
+use Rattle.std.proofs.Common.{◌≡◌, ℕ, ◌+◌, ◌^◌, ◌<◌, ◌≤◌, ◌==◌, Bool, true, false, ◌&&◌, List, [], ◌∷◌, ◌++◌, take, drop, get_or, length, Option, Some, None, IsSome, IsTrue, refl, arith, sym, ap, ◌∙◌, subst}
 use Rattle.std.specs.Option.{option_map}
 use Rattle.std.proofs.lemmas.List.{drop_more}
 use Rattle.std.proofs.lemmas.Bool.Decides.{nat_tests}
 use Rattle.ae_word.specs.declared.op.WordOp.{WordOp}
 use Rattle.ae_word.specs.declared.op.WordOp.TheVariants.{Add, Sub, Mul, And, Or, Xor, Not, Min, Max, Eq, Lt, Mux, Shl, Shr, Cast, SLt, SMin, SMax, Sar, SCast}
-use Rattle.ae_word.specs.AtomTree.{AtomTree, WordKind, word, pair, atom_kinds, atom_in_size, widths_in_range, same_kind, same_sign, unsigned_word, signed_word}
+use Rattle.ae_word.specs.AtomTree.{AtomTree, WordKind, word, pair, atom_kinds, widths_in_range, same_kind, same_sign, unsigned_word, signed_word}
 use Rattle.ae_word.specs.WordTable.{result_width_of, OperandsFit, HasRange, op_for, row_of}
 use Rattle.ae_seqtype.specs.SeqTree.{SeqTree, atom, seq, same_type, in_size}
 use Rattle.ae_seqtype.specs.ValueTree.{ValueTree, number, value_of, FitKinds, Fit, Stands}
 use Rattle.ae_seq.specs.Typing.{word_type, one_word, two_words, as_word, kind_of}
-use Rattle.ae_seq.specs.Meaning.{coded, word_value, cast_value, kind_in, at}
+use Rattle.ae_seq.specs.Meaning.{coded, word_value, kind_in, at}
 use Rattle.ae_eval.specs.Stack.{FitAt, Pushed, window}
 use Rattle.ae_eval.proofs.Windows.{pushed-on}
 use Rattle.ae_eval.proofs.Moving.{where_ok-some}
@@ -54,11 +54,6 @@ ranges (word k) h =
 ranges (pair a b) h =
     let r = and-both (widths_in_range a) (widths_in_range b) h in
     AllRange-append (atom_kinds a) (atom_kinds b) (ranges a r.0) (ranges b r.1)
-
-kinds-at : (ks : List WordKind) (i : ℕ) (k : WordKind) → AllRange ks → slice_get ks i ≡ Some k → (1 ≤ k.width) × (k.width ≤ 64)
-kinds-at [] i k h e = cc
-kinds-at (l ∷ ks) zero k h e = let same : l ≡ k = cc in rw (← same) h.0
-kinds-at (l ∷ ks) (suc i) k h e = kinds-at ks i k h.1 e
 
 mapped : (o : Option WordKind) (w : ℕ) → option_map (λ (q : WordKind). q.width) o ≡ Some w → (k : WordKind) × (o ≡ Some k) × (w ≡ k.width)
 mapped None w h = cc
@@ -366,32 +361,6 @@ one-pushed op s start old new x r h ex er en = pushed-on _ old new (r ∷ []) _ 
     let Q : ℕ → Type 0 = λ z. Stands u (z ∷ []) (word_value op (value_of s (window s start old) ∷ [])) in
     subst Q (sym c) (subst P (value ∙ ap (λ z. word_value op (z ∷ [])) (sym v)) st))
 
-pub one-fit : (op : WordOp) (s : SeqTree) (start : ℕ) (old : List ℕ) (x : ℕ) → FitAt s start old → x ≡ get_or old start x → IsSome (word_type op (s ∷ []))
-    → (k : WordKind) → kind_of s ≡ Some k → OperandsFit (op_for k.signed op) k.width x 0 0
-one-fit op s start old x h ex t k e =
-    let p = there (word_type op (s ∷ [])) t in
-    let l = one-line op s p.0 p.1 in
-    let same : l.kind ≡ k = (let q = kind-is s l.kind l.first in cc) in
-    let P : WordKind → Type 0 = λ q. OperandsFit (op_for q.signed op) q.width x 0 0 in
-    subst P same (l.fit x 0 0 (word-window s l.kind start old x l.first h ex).1)
-
-pub cast-pushed : (v : ℕ) (s : SeqTree) (start : ℕ) (old new : List ℕ) (x r : ℕ) → FitAt s start old → x ≡ get_or old start x
-    → ((k : WordKind) → kind_of s ≡ Some k → r ≡ coded (Cast v) k x 0 0) → new ≡ old ++ r ∷ []
-    → Pushed (as_word (signed_word v) (one_word (s ∷ []))) old new (cast_value v (value_of s (window s start old)))
-cast-pushed v s start old new x r h ex er en = pushed-on _ old new (r ∷ []) _ en (λ u p.
-    let o = as-of (signed_word v) (one_word (s ∷ [])) u p in
-    let l = one-of s o.0 o.1 in
-    let k = l.0 in
-    let w = word-window s k start old x l.1 h ex in
-    let e = value-is s k (window s start old) x l.1 w.0 in
-    let c = er k (kind-is s k l.1) in
-    let small : coded (Cast v) k x 0 0 < 2 ^ v = rw (wide-Cast v k.signed k.width) at
-    (word_fits (op_for k.signed (Cast v)) k.width x 0 0 (fit-Cast v k.signed k.width x 0 0 w.1)) in
-    let st = stands-word u (record { signed = true; width = v }) (coded (Cast v) k x 0 0) o.2 small in
-    let P : ValueTree → Type 0 = λ z. Stands u (coded (Cast v) k x 0 0 ∷ []) z in
-    let Q : ℕ → Type 0 = λ z. Stands u (z ∷ []) (cast_value v (value_of s (window s start old))) in
-    subst Q (sym c) (subst P (ap (cast_value v) (sym e)) st))
-
 pub two-pushed : (op : WordOp) (s z : SeqTree) (start place : ℕ) (old new : List ℕ) (x y r : ℕ) → FitAt s start old → FitAt z place old
     → x ≡ get_or old start x → y ≡ get_or old place y → ((k : WordKind) → kind_of s ≡ Some k → r ≡ coded op k x y 0) → new ≡ old ++ r ∷ []
     → Pushed (word_type op (s ∷ z ∷ [])) old new (word_value op (value_of s (window s start old) ∷ value_of z (window z place old) ∷ []))
@@ -467,24 +436,6 @@ choice-rooms op t s z i j m old ht hs hz h =
     let p = there (word_type op (t ∷ s ∷ z ∷ [])) h in
     let l = choice-line op t s z p.0 p.1 in
     (word-room t _ i old l.test ht, word-room s _ j old l.first hs, word-room z _ m old l.second hz)
-
-pub choice-range : (op : WordOp) (t s z : SeqTree) → IsSome (word_type op (t ∷ s ∷ z ∷ [])) → HasRange op
-choice-range op t s z h =
-    let p = there (word_type op (t ∷ s ∷ z ∷ [])) h in
-    let l = choice-line op t s z p.0 p.1 in
-    rw l.is tt
-
--- the width of a word of an atom in size
-widths-at : (a : AtomTree) (i : ℕ) (k : WordKind) → IsTrue (widths_in_range a) → slice_get (atom_kinds a) i ≡ Some k → (1 ≤ k.width) × (k.width ≤ 64)
-widths-at a i k h e = kinds-at (atom_kinds a) i k (ranges a h) e
-
-pub width-range : (a : AtomTree) (i : ℕ) (w : ℕ) → IsTrue (atom_in_size a) → option_map (λ (q : WordKind). q.width) (slice_get (atom_kinds a) i) ≡ Some w
-    → (1 ≤ w) × (w ≤ 64)
-width-range a i w h e =
-    let r : IsTrue (widths_in_range a) = grind (arith, nat_tests) in
-    let k = mapped (slice_get (atom_kinds a) i) w e in
-    let b = widths-at a i k.0 r k.1 in
-    (omega (arith, b.0, k.2), omega (arith, b.1, k.2))
 
 -- a cast to a type in size names a width in range
 pub sized-word : (k : WordKind) → IsTrue (in_size (atom (word k))) → (1 ≤ k.width) × (k.width ≤ 64)

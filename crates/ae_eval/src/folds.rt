@@ -1,6 +1,6 @@
 // Operators on the words of two values, folds and scans.
 
-ghost use Rattle.std.specs.Prelude.{◌≡◌, ◌∷◌, [], ◌++◌, ◌-◌, ◌*◌, ◌≤◌, ◌<◌, ◌+◌, ◌^◌, Some, None, OnOk, IsTrue, IsSome, length, slice_get};
+ghost use Rattle.std.specs.Prelude.{◌≡◌, ◌∷◌, [], ◌++◌, ◌-◌, ◌*◌, ◌<◌, ◌+◌, ◌^◌, Some, OnOk, IsTrue, IsSome, length, slice_get};
 ghost use Rattle.ae_word.specs.AtomTree.{WordKind, atom_in_size, atom_kinds, atom_tree};
 ghost use Rattle.ae_word.specs.WordTable.{folds};
 ghost use Rattle.ae_seqtype.specs.SeqTree.{in_size, kinds, seq_tree, words};

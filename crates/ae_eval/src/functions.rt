@@ -1,6 +1,6 @@
 // The values of functions.
 
-ghost use Rattle.std.specs.Prelude.{◌≡◌, ◌∷◌, [], ◌+◌, ◌*◌, ◌≤◌, ◌<◌, OnOk, IsTrue, length, map, slice_get, take, drop};
+ghost use Rattle.std.specs.Prelude.{◌∷◌, [], ◌*◌, ◌≤◌, ◌<◌, OnOk, IsTrue, length, map, slice_get, take, drop};
 ghost use Rattle.ae_seqtype.specs.SeqTree.{in_size, seq_tree};
 ghost use Rattle.ae_seqtype.specs.ValueTree.{ValueTree, elements, listed, value_of};
 ghost use Rattle.ae_seq.specs.ProgramTree.{program_tree};

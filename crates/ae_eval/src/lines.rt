@@ -1,7 +1,6 @@
 // The lines of functions that call no function, and what goes over a call.
 
-ghost use Rattle.std.specs.Prelude.{◌≡◌, ◌∷◌, [], ◌++◌, ◌+◌, ◌≤◌, ◌<◌, ℕ, All, Some, OnOk, IfOk, IsTrue, length, slice_get, get_or, take, drop};
-ghost use Rattle.ae_seqtype.specs.SeqTree.{in_size, seq_tree};
+ghost use Rattle.std.specs.Prelude.{◌≡◌, ◌≤◌, ◌<◌, ℕ, All, Some, OnOk, length, slice_get, get_or, take, drop};
 ghost use Rattle.ae_seq.specs.ProgramTree.{node_tree, program_tree};
 ghost use Rattle.ae_seq.specs.Trees.{node_trees, param_trees};
 ghost use Rattle.ae_seq.specs.Meaning.{at};

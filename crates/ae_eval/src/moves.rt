@@ -1,6 +1,6 @@
 // Operators that only move words.
 
-ghost use Rattle.std.specs.Prelude.{◌≡◌, ◌∷◌, [], ◌++◌, ◌-◌, ◌*◌, ◌≤◌, ◌+◌, Some, None, OnOk, IsTrue, IsSome, take, drop, map, length};
+ghost use Rattle.std.specs.Prelude.{◌-◌, ◌*◌, ◌+◌, OnOk, IsTrue, IsSome, take, drop, map};
 ghost use Rattle.ae_seqtype.specs.SeqTree.{in_size, repeated, seq_tree};
 ghost use Rattle.ae_seqtype.specs.ValueTree.{both, cut, elements, listed, value_of};
 ghost use Rattle.ae_seq.specs.Typing.{fst_type, pair_type, partition_type, select_type, shift_type, snd_type, unpartition_type, up_type, zip_type};

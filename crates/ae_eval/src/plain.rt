@@ -1,6 +1,6 @@
 // The operators that call no function.
 
-ghost use Rattle.std.specs.Prelude.{◌≡◌, ◌∷◌, [], ◌≤◌, Some, OnOk, IsTrue, IsSome};
+ghost use Rattle.std.specs.Prelude.{◌≡◌, ◌∷◌, [], Some, OnOk, IsTrue, IsSome};
 ghost use Rattle.ae_seqtype.specs.SeqTree.{SeqTree, in_size, seq_tree};
 ghost use Rattle.ae_seqtype.specs.ValueTree.{value_of};
 ghost use Rattle.ae_seq.specs.ProgramTree.{op_tree};

@@ -1,12 +1,12 @@
 // Operators on words.
 
-ghost use Rattle.std.specs.Prelude.{◌≡◌, ◌∷◌, [], ◌++◌, ◌≤◌, ◌<◌, Some, None, OnOk, IsTrue, IsSome, slice_get};
+ghost use Rattle.std.specs.Prelude.{◌≡◌, ◌∷◌, [], ◌≤◌, ◌<◌, Some, OnOk, IsTrue, IsSome};
 ghost use Rattle.ae_word.specs.AtomTree.{WordKind};
 ghost use Rattle.ae_word.specs.WordTable.{HasRange, OperandsFit, op_for};
-ghost use Rattle.ae_seqtype.specs.SeqTree.{SeqTree, in_size, seq_tree};
+ghost use Rattle.ae_seqtype.specs.SeqTree.{in_size, seq_tree};
 ghost use Rattle.ae_seqtype.specs.ValueTree.{value_of};
-ghost use Rattle.ae_seq.specs.ProgramTree.{OpTree, cast_int, word};
-ghost use Rattle.ae_seq.specs.Typing.{Signature, kind_of, one_word, as_word, word_type};
+ghost use Rattle.ae_seq.specs.ProgramTree.{word};
+ghost use Rattle.ae_seq.specs.Typing.{kind_of, one_word, as_word, word_type};
 ghost use Rattle.ae_word.specs.AtomTree.{signed_word};
 ghost use Rattle.ae_seq.specs.Meaning.{cast_value, coded, word_value};
 ghost use Rattle.ae_eval.specs.Stack.{FitAt, Pushed, window};

@@ -27,11 +27,6 @@ use Rattle.ae_order.proofs.Answered.{ok_map}
 abbrev pub Has : ℕ → List NetTree → List (Option NetId) → List SizedCell → (net width : ℕ) → ExprTree → Type 0
 Has from ns nets cells y w e = (at : List ℕ → ℕ) → AreNamed ns nets at → IsWord from cells y w (λ run t. value_at ns (read at run t) w e)
 
--- an answer on two nets
-abbrev OfTwo : ℕ → List SizedCell → List SizedCell → (x u y v z w : ℕ) → (ℕ → ℕ → ℕ) → Type 0
-OfTwo from before cells x u y v z w op =
-    (f g : List Clock → ℕ → ℕ) → IsWord from before x u f → IsWord from before y v g → IsWord from cells z w (λ run t. op (f run t) (g run t))
-
 constant_is : (ns : List NetTree) (c : ModuleClock) (w k : ℕ) (e : ExprTree) → IsConstantOf k e → k ≡ value_at ns c w e
 constant_is ns c w k (constant size value fits) h = h
 constant_is ns c w k (name n) h = absurd h

@@ -1,6 +1,6 @@
 // Nets with what names have: words, bits, parts, and words of memories.
 
-ghost use Rattle.std.specs.Prelude.{◌≡◌, ◌<◌, ◌≤◌, ◌+◌, ◌-◌, ◌*◌, ◌^◌, ℕ, List, length, get_or, IfOk, OnOk, true, if◌then◌else◌, Some, slice_get};
+ghost use Rattle.std.specs.Prelude.{◌≡◌, ◌<◌, ◌≤◌, ◌+◌, ◌-◌, ◌^◌, ℕ, List, length, get_or, IfOk, OnOk, true, if◌then◌else◌, Some, slice_get};
 ghost use Rattle.ae_netlist.specs.Circuit.{IsAddress, IsMemory, IsNet};
 ghost use Rattle.ae_netlist.specs.Runs.{Clock, store_at};
 ghost use Rattle.ae_vread.specs.ModuleTree.{index as index_tree, name as name_tree, part as part_tree, place as place_tree};

@@ -1,4 +1,3 @@
-pub mod Bools
 pub mod CutLemmas
 pub mod Digits
 pub mod FieldLemmas

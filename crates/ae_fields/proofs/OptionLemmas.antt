@@ -1,7 +1,6 @@
 -- What a chain of answers says where it has one.
 use Rattle.std.proofs.Common.{◌≡◌, Bool, true, false, Option, Some, None, option_map, refl}
 use Rattle.ae_seq.specs.Typing.{where_ok, ◌>>=◌}
-use Rattle.ae_fields.specs.Words.{first_of}
 
 pub bind-some : {A B : Type 0} (o : Option A) (f : A → Option B) (y : B) → (o >>= f) ≡ Some y → (x : A) × (o ≡ Some x) × (f x ≡ Some y)
 bind-some None f y h = absurd cc
@@ -20,12 +19,3 @@ map-some f (Some x) y h = (x, refl, some-of (f x) y h)
 
 pub some-is : {A : Type 0} (x y : A) → Some x ≡ Some y → x ≡ y
 some-is x y h = cc
-
--- one of the two answers
-pub data FirstOf {A : Type 0} (o p : Option A) (y : A) : Type 0 where
-  first : o ≡ Some y → FirstOf o p y
-  second : p ≡ Some y → FirstOf o p y
-
-pub first-some : {A : Type 0} (o p : Option A) (y : A) → first_of o p ≡ Some y → FirstOf o p y
-first-some None p y h = second h
-first-some (Some x) p y h = first h

@@ -122,9 +122,6 @@ all-append : (p : List ℕ → Bool) (xs ys : List (List ℕ)) → list_all p xs
 all-append p [] ys hx hy = hy
 all-append p (x ∷ xs) ys hx hy = and-both _ _ (and-first _ _ hx) (all-append p xs ys (and-second (p x) _ hx) hy)
 
-pub passed-none : (text : List ℕ) → IsPassed text text
-passed-none text = record { before = []; passed = record { joined = refl; cut = refl; none = refl; whole = refl } }
-
 pub passed-line : (text rest line after : List ℕ) → IsPassed text rest → IsFirstLine rest line after → lines rest ≡ line ∷ lines after → 0 < length rest
     → is_mark (fields (said line)) ≡ false → IsPassed text after
 passed-line text rest line after i f ls some no_mark_here =

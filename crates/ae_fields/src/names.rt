@@ -1,7 +1,6 @@
 // Names.
 
 ghost use Rattle.std.specs.Prelude.{◌≡◌, IsTrue, IfOk, string_bytes};
-ghost use Rattle.std.specs.List.{list_all};
 ghost use Rattle.ae_seq.specs.Formed.{is_name};
 
 use std::alloc::{AllocError, Global};

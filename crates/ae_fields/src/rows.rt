@@ -1,6 +1,6 @@
 // Rows of words.
 
-ghost use Rattle.std.specs.Prelude.{◌≡◌, ◌+◌, ◌≤◌, ◌<◌, ◌^◌, ◌++◌, ℕ, Some, None, IfOk, IfErr, IfNone, All, length, map, if◌then◌else◌};
+ghost use Rattle.std.specs.Prelude.{◌≡◌, ◌+◌, ◌≤◌, ◌<◌, ◌^◌, ◌++◌, Some, None, IfOk, IfErr, IfNone, All, length, if◌then◌else◌};
 ghost use Rattle.std.specs.Str.Parse.{digits_value};
 ghost use Rattle.ae_fields.specs.Cut.{fields, lines};
 ghost use Rattle.ae_fields.specs.Rows.{is_right, wrong_column, bad_row, row_words, rows, words_in};

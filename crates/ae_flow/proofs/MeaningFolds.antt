@@ -14,7 +14,7 @@ use Rattle.ae_seqtype.specs.ValueTree.{ValueTree, end, elements, listed, value_o
 use Rattle.ae_seqtype.proofs.Sizes.{length-kinds}
 use Rattle.ae_seqtype.proofs.Stands.{length-Fit, Stands-one}
 use Rattle.ae_seq.specs.Meaning.{coded, wordwise, fold_all, folds_up_to}
-use Rattle.ae_ops.specs.Folds.{combine, fold_to}
+use Rattle.ae_ops.specs.Folds.{combine}
 use Rattle.ae_fold.specs.declared.words.WordFold.{WordFold}
 use Rattle.ae_fold.specs.Folding.{fold_by, fold_at, word_fold}
 use Rattle.ae_eval.specs.Stack.{combined}

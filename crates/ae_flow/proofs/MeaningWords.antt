@@ -1,11 +1,11 @@
 -- Operators on words, pairs and constants make the words of their values.
-use Rattle.std.proofs.Common.{◌≡◌, ℕ, zero, suc, ◌+◌, ◌-◌, ◌*◌, ◌<◌, ◌≤◌, ◌^◌, ◌==◌, Bool, true, false, List, [], ◌∷◌, ◌++◌, length, take, drop, map, Option, Some, None, IsTrue, get_or, refl, arith, sym, ap, ◌∙◌, subst, append-nil, length-append, length-drop}
+use Rattle.std.proofs.Common.{◌≡◌, ℕ, zero, suc, ◌+◌, ◌-◌, ◌*◌, ◌<◌, ◌≤◌, ◌^◌, ◌==◌, Bool, true, false, List, [], ◌∷◌, ◌++◌, length, take, drop, map, Some, None, IsTrue, get_or, refl, arith, sym, ap, ◌∙◌, subst, append-nil, length-append, length-drop}
 use Rattle.std.proofs.lemmas.Bool.Decides.{nat_tests}
 use Rattle.std.proofs.lemmas.List.{take_all, take_at, drop_at, take-append-le, drop-append-le}
 use Rattle.std.proofs.lemmas.Option.{none-some, same_Some, option_and_then_some}
 use Rattle.ae_word.specs.declared.op.WordOp.{WordOp}
 use Rattle.ae_word.specs.declared.op.WordOp.TheVariants.{Min, Max, Lt, Mux, Shr, Cast}
-use Rattle.ae_word.specs.AtomTree.{AtomTree, WordKind, word, pair, atom_words, atom_kinds, signed_word, unsigned_word}
+use Rattle.ae_word.specs.AtomTree.{WordKind, word, pair, atom_words, atom_kinds, signed_word, unsigned_word}
 use Rattle.ae_word.specs.WordTable.{word_result, result_width_of, op_for, OperandsFit, row_of}
 use Rattle.ae_word.proofs.Sizes.{length-atom_kinds}
 use Rattle.ae_seqtype.specs.SeqTree.{SeqTree, atom, seq, atoms, atom_of, words, kinds}

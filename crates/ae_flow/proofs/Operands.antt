@@ -3,14 +3,13 @@ use Rattle.std.proofs.Common.{◌≡◌, ℕ, ◌+◌, ◌-◌, ◌*◌, ◌/◌
 use Rattle.std.specs.Option.{option_map}
 use Rattle.std.specs.List.{range_with_len}
 use Rattle.std.proofs.lemmas.Nat.{pow_pos, mod-mul-add, mod_below}
-use Rattle.std.proofs.lemmas.List.{length-map, map-append}
+use Rattle.std.proofs.lemmas.List.{map-append}
 use Rattle.std.proofs.lemmas.List.FromFn.{length-map-range_with_len, get_or-map-range_with_len}
 use Rattle.std.proofs.lemmas.Option.{none-some, same_Some, slice_get_within, slice_get-map, get_or_from_slice_get}
 use Rattle.ae_word.specs.declared.op.WordOp.{WordOp}
 use Rattle.ae_word.specs.declared.op.WordOp.TheVariants.{Not, Mux, Shl, Shr, Cast, Sar, SCast}
 use Rattle.ae_word.specs.AtomTree.{WordKind, atom_kinds}
 use Rattle.ae_word.specs.WordTable.{OperandsFit, result_width_of}
-use Rattle.ae_word.proofs.Sizes.{length-atom_kinds}
 use Rattle.ae_netlist.proofs.Fits.{word_fits}
 use Rattle.ae_seqtype.specs.SeqTree.{repeated}
 use Rattle.ae_sttype.specs.StTree.{StTree, st_atoms, element_atom, element_words}

@@ -103,13 +103,6 @@ drop_repeated (suc e) r o xs =
     ap (λ i. drop i (repeated (suc e + r) xs)) a ∙ (ap (λ i. drop (length xs + (e * length xs + o)) (repeated i xs)) b ∙
     (drop_past xs (repeated (e + r) xs) (e * length xs + o) ∙ drop_repeated e r o xs))
 
-pub take_repeated : (m r : ℕ) (xs : List ℕ) → take (m * length xs) (repeated (m + r) xs) ≡ repeated m xs
-take_repeated m r xs =
-    ap (take (m * length xs)) (repeated_add m r xs)
-    ∙ (ap (λ i. take i (repeated m xs ++ repeated r xs)) (sym (length-repeated m xs)) ∙ take-append_seam (repeated m xs) (repeated r xs))
-
--- ---- the words of a stream
-
 pub fit_of : (s : Stream) (ws : List ℕ) → AreWords s ws → FitWidths ws (repeated (length s.slots) s.widths)
 fit_of s ws h = fit_by ws (repeated (length s.slots) s.widths) (h.long ∙ sym (length-repeated (length s.slots) s.widths)) (λ i x w f g.
     let within : i < length ws = slice_get_within ws i x f in

@@ -6,7 +6,7 @@ use Rattle.ae_word.specs.declared.op.WordOp.{WordOp}
 use Rattle.ae_word.specs.declared.op.WordOp.TheVariants.{Mux, Cast, SCast}
 use Rattle.ae_word.specs.AtomTree.{WordKind, word, unsigned_word, signed_word}
 use Rattle.ae_word.specs.WordTable.{HasRange, arity_of, result_width_of, op_for, row_of}
-use Rattle.ae_seqtype.specs.SeqTree.{SeqTree, atom, in_size}
+use Rattle.ae_seqtype.specs.SeqTree.{SeqTree, atom}
 use Rattle.ae_seq.specs.ProgramTree.{ProgramTree}
 use Rattle.ae_seq.specs.Formed.{is_word_line, within}
 use Rattle.ae_seq.specs.Typing.{type_at, word_type, one_word, as_word}

@@ -69,6 +69,7 @@ pub build_whole : (cells : List SizedCell) (f : FoldShape) (folds : List WordFol
 build_whole cells f folds plan ins nets h = rw (h.plan_are, h.folds_are) (whole_stride f.op (st_tree f.element))
 
 pub build_memories : (cells : List SizedCell) (f : FoldShape) (folds : List WordFold) (plan : Plan) (ins : List (List NetId)) (nets : List NetId)
-    → IsBuild cells f folds plan ins nets → loop_memories plan ≡ (if nat_lt 1 f.slots then element_columns (st_tree f.element) * rings (time (st_tree f.element)) else 0)
+    → IsBuild cells f folds plan ins nets → loop_memories
+    plan ≡ (if nat_lt 1 f.slots then element_columns (st_tree f.element) * rings (time (st_tree f.element)) else 0)
 build_memories cells f folds plan ins nets h =
     rw h.plan_are (wait_times f.slots (element_columns (st_tree f.element) * rings (time (st_tree f.element))))

@@ -1,18 +1,18 @@
 -- The folds of an atom's words.
-use Rattle.std.proofs.Common.{ℕ, zero, suc, ◌≡◌, ◌+◌, ◌-◌, ◌<◌, ◌≤◌, ◌⊎◌, Bool, true, false, ◌&&◌, inl, inr, nat_le, List, length, map, Some, slice_get, take, ◌++◌, ◌∷◌, [], get_or, arith, refl, sym, ap, ◌∙◌, IsTrue}
+use Rattle.std.proofs.Common.{ℕ, suc, ◌≡◌, ◌+◌, ◌-◌, ◌<◌, ◌≤◌, ◌⊎◌, Bool, true, false, inl, inr, List, length, map, Some, slice_get, take, ◌++◌, ◌∷◌, [], get_or, arith, refl, sym, ap, ◌∙◌}
 use Rattle.std.specs.Option.{option_map}
-use Rattle.std.proofs.lemmas.Bool.Decides.{nat_tests}
 use Rattle.std.proofs.lemmas.Bool.{cases_lt}
 use Rattle.std.proofs.lemmas.List.{length-map, map-append, take_more, take_all}
 use Rattle.std.proofs.lemmas.Option.{slice_get-map, slice_get_within, slice_get-get_or}
 use Rattle.ae_word.specs.declared.op.WordOp.{WordOp}
 use Rattle.ae_word.specs.declared.op.WordOp.TheVariants.{Add, Mul, And, Or, Xor, Min, Max}
 use Rattle.ae_word.specs.WordTable.{folds, op_for}
-use Rattle.ae_word.specs.AtomTree.{AtomTree, WordKind, word, pair, atom_kinds, atom_words, atom_in_size, widths_in_range}
+use Rattle.ae_word.specs.AtomTree.{WordKind, atom_kinds, atom_words}
+use Rattle.ae_word.proofs.Ranges.{width_there}
 use Rattle.ae_word.proofs.Sizes.{length-atom_kinds}
-use Rattle.ae_sttype.specs.StTree.{StTree, atom, tseq, sseq, element_atom}
-use Rattle.ae_sttype.specs.Size.{HasLengths, IsInSize}
-use Rattle.ae_sttype.proofs.Bounds.{element_words_pos}
+use Rattle.ae_sttype.specs.StTree.{StTree, element_atom}
+use Rattle.ae_sttype.specs.Size.{IsInSize}
+use Rattle.ae_sttype.proofs.Bounds.{element_words_pos, sized_atom}
 use Rattle.ae_netlist.proofs.Gets.{get_left}
 use Rattle.ae_ops.specs.Folds.{IsFold}
 use Rattle.ae_fold.specs.declared.words.WordFold.{WordFold}
@@ -33,30 +33,6 @@ get_append_cases xs ys q x d found = elim (cases_lt q (length xs)) [
       inl (l, a ∙ ap Some same)
   | inr l ↦ (let e : length xs + (q - length xs) ≡ q = omega arith in inr (l, sym (get_right xs ys (q - length xs)) ∙ (ap (slice_get (xs ++ ys)) e ∙ found)))
 ]
-
-pub sized_atom : (s : StTree) → HasLengths s → IsTrue (atom_in_size (element_atom s))
-sized_atom (atom a) h = h
-sized_atom (tseq n i t) h = sized_atom t h.1
-sized_atom (sseq n t) h = sized_atom t h.1
-
-both_true : (a b : Bool) → (a && b) ≡ true → (a ≡ true) × (b ≡ true)
-both_true true b h = (refl, h)
-both_true false b h = cc
-
-kind_range : (a : AtomTree) (j : ℕ) (k : WordKind) → widths_in_range a ≡ true → slice_get (atom_kinds a) j ≡ Some k → (1 ≤ k.width) × (k.width ≤ 64)
-kind_range (word x) zero k h f =
-    let e : x ≡ k = cc in
-    let b = both_true (nat_le 1 x.width) (nat_le x.width 64) h in
-    let low : 1 ≤ x.width = grind (arith, nat_tests, b.0) in
-    let high : x.width ≤ 64 = grind (arith, nat_tests, b.1) in
-    rw (← e) (low, high)
-kind_range (word x) (suc j) k h f = cc
-kind_range (pair a b) j k h f =
-    let both = both_true (widths_in_range a) (widths_in_range b) h in
-    elim (get_append_cases (atom_kinds a) (atom_kinds b) j k k f) [
-      | inl v ↦ kind_range a j k both.0 v.1
-      | inr v ↦ kind_range b (j - length (atom_kinds a)) k both.1 v.1
-    ]
 
 -- the operator on words of a kind
 op_folds : (signed : Bool) (op : WordOp) → folds op ≡ true → IsFold (op_for signed op)
@@ -102,15 +78,15 @@ are_folds op s h size =
     let kinds : List WordKind = atom_kinds (element_atom s) in
     let long : length (map (fold_by op) kinds) ≡ length kinds = length-map kinds (fold_by op) in
     let some : 1 ≤ length (map (fold_by op) kinds) = omega (arith, long, length-atom_kinds (element_atom s), element_words_pos s) in
-    let ranges = both_true (widths_in_range (element_atom s)) _ (sized_atom s size.lengths) in
+    let sized = sized_atom s size.lengths in
     let product : (j : ℕ) (f : WordFold) → slice_get (map (fold_by op) kinds) j ≡ Some f → product_of f.op ≡ product_of op = λ j f found.
     (let k = kind_of op kinds j f found in ap (λ (x : WordFold). product_of x.op) (sym k.2) ∙ op_products k.0.signed op h)
     in
     record {
       some = some;
       ops = λ j f found. (let k = kind_of op kinds j f found in rw (← k.2) (op_folds k.0.signed op h));
-      low = λ j f found. (let k = kind_of op kinds j f found in rw (← k.2) (kind_range (element_atom s) j k.0 ranges.0 k.1).0);
-      high = λ j f found. (let k = kind_of op kinds j f found in rw (← k.2) (kind_range (element_atom s) j k.0 ranges.0 k.1).1);
+      low = λ j f found. (let k = kind_of op kinds j f found in rw (← k.2) (width_there (element_atom s) j k.0 sized k.1).0);
+      high = λ j f found. (let k = kind_of op kinds j f found in rw (← k.2) (width_there (element_atom s) j k.0 sized k.1).1);
       same = λ j f found. product j f found ∙ sym (product _ _ (fold_there (map (fold_by op) kinds) 0 some));
     }
 

@@ -21,6 +21,3 @@ columns_some t h = product_some (lanes t) (element_words t) (lanes_pos t h.lengt
 pub levels_below : (lanes levels : ℕ) → 1 ≤ lanes → ((k : ℕ) → k < levels → 2 ^ k < lanes) → levels ≤ lanes
 levels_below lanes zero some least = omega arith
 levels_below lanes (suc l) some least = omega (arith, below_power l, least l (omega arith))
-
-pub product_small : (a b : ℕ) → a ≤ 4096 → b ≤ 4096 → a * b ≤ 16777216
-product_small a b p q = grind arith

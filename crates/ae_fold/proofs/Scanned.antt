@@ -42,9 +42,6 @@ continued run start z y op w x last first inner k le pos acc h one q none l =
 
 -- ---- slots of lanes are one row
 
-below_row : (lanes j q i l : ℕ) → j ≤ q → i < lanes → l < lanes → (j < q → ⊥) → i ≤ l → j * lanes + i ≤ q * lanes + l
-below_row lanes j q i l jq il ll last le = let e : j ≡ q = omega arith in let m : j * lanes ≡ q * lanes = ap (λ n. n * lanes) e in omega arith
-
 pub fold_grid : (op : WordOp) (w : ℕ) (f : ℕ → ℕ) (lanes q : ℕ) → IsFold op → 1 ≤ lanes → Fit w f (q * lanes + (lanes - 1))
     → fold_to op w (λ s. fold_to op w (λ l. f (s * lanes + l)) (lanes - 1)) q ≡ fold_to op w f (q * lanes + (lanes - 1))
 fold_grid op w f lanes zero ok some fit =

@@ -16,7 +16,7 @@ use Rattle.ae_clocked.proofs.Adding.{grows_trans}
 use Rattle.ae_clocked.proofs.RingLaw.{look_later, register_later}
 use Rattle.ae_fold.specs.declared.feedback.RingCounter.{RingCounter}
 use Rattle.ae_fold.specs.Folding.{AddsUpTo}
-use Rattle.ae_fold.specs.Feedback.{AddsStores, IsPlace, MayPlace, TurnsAlways, TurnsIn}
+use Rattle.ae_fold.specs.Feedback.{AddsStores, MayPlace, TurnsAlways}
 
 -- ---- as a netlist grows
 
@@ -122,12 +122,3 @@ rings_some delay l =
     let far : 8 ≤ delay + 1 = omega arith in
     let late : nat_lt (delay + 1) 8 ≡ false = search rules in
     rw late (omega arith)
-
--- a counter that there is
-pub place_known : (cells : List SizedCell) (reach : ℕ) (ring : Option RingCounter) (at : RingCounter) → ring ≡ Some at → MayPlace cells reach ring
-    → IsPlace cells reach at
-place_known cells reach ring at e h = subst (MayPlace cells reach) e h
-
-pub turns_known : (run : List Clock) (start : ℕ) (ring : Option RingCounter) (at : RingCounter) → ring ≡ Some at → TurnsIn run start ring
-    → HasWords run start at.net.0 (λ c. c % 2 ^ at.bits)
-turns_known run start ring at e h = subst (TurnsIn run start) e h

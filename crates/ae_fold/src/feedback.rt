@@ -1,6 +1,6 @@
 // Words that come back some clocks later.
 
-ghost use Rattle.std.specs.Prelude.{◌≡◌, ℕ, ◌+◌, ◌-◌, ◌%◌, ◌^◌, ◌≤◌, length, IfOk, OnOk};
+ghost use Rattle.std.specs.Prelude.{ℕ, ◌+◌, ◌-◌, ◌%◌, ◌^◌, ◌≤◌, length, IfOk, OnOk};
 ghost use Rattle.ae_netlist.specs.Circuit.{IsNet};
 ghost use Rattle.ae_netlist.specs.Runs.{HasWords, InEveryResetRun, InEveryRun, InEveryRunFrom};
 ghost use Rattle.ae_clocked.specs.Signals.{Adds, IsFullAt, IsLater};

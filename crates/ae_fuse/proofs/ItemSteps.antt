@@ -1,7 +1,7 @@
 -- The labels of all items, node by node.
 use Rattle.std.proofs.Common.{◌≡◌, ℕ, zero, suc, ◌+◌, ◌<◌, true, List, [], ◌∷◌, length, Some, slice_get, refl, arith, sym, ap, ◌∙◌, subst, length-append}
 use Rattle.std.proofs.lemmas.Bool.{and_parts}
-use Rattle.std.proofs.lemmas.List.{get_or_append_left, get_or-append-add, length-map}
+use Rattle.std.proofs.lemmas.List.{get_or_append_left}
 use Rattle.std.proofs.lemmas.Option.{get_or_from_slice_get, none-some, same_Some, slice_get_within}
 use Rattle.ae_word.specs.AtomTree.{unsigned_word}
 use Rattle.ae_sttype.specs.declared.st_type.StType.{StType}
@@ -9,13 +9,11 @@ use Rattle.ae_sttype.specs.StTree.{StTree, atom, sseq, st_tree}
 use Rattle.ae_sttype.specs.Size.{IsInSize}
 use Rattle.ae_moves.proofs.Lists.{get_mapped}
 use Rattle.ae_rewrite.specs.declared.st_program.StFunc.{StFunc}
-use Rattle.ae_rewrite.specs.StProgramTree.{StNodeTree, StFuncTree, st_func_tree, st_trees}
+use Rattle.ae_rewrite.specs.StProgramTree.{StNodeTree, st_func_tree, st_trees}
 use Rattle.ae_rewrite.specs.Scheduled.{node_layouts}
 use Rattle.ae_rewrite.specs.Sound.{item_layout, item_layouts}
 use Rattle.ae_flow.specs.Flow.{layout_words}
 use Rattle.ae_fuse.specs.Labels.{MovesWords, are_moving, is_moving, layout_numbers}
-use Rattle.ae_flow.proofs.Flowing.{node_layout as layout-of-node}
-use Rattle.ae_retime.proofs.Lists.{layouts_long as count-items}
 
 abbrev none : StTree
 none = sseq 0 (atom (unsigned_word 1))

@@ -1,6 +1,6 @@
 -- Each result has the nets of its move, as late as the latest.
-use Rattle.std.proofs.Common.{ℕ, ◌≡◌, ◌+◌, ◌-◌, ◌*◌, ◌<◌, ◌≤◌, inl, inr, List, [], ◌∷◌, ◌++◌, length, length-append, map, take, sum_by, Some, slice_get, refl, arith, sym, ap, ◌∙◌, subst}
-use Rattle.std.proofs.lemmas.Option.{same_Some, slice_get_within}
+use Rattle.std.proofs.Common.{ℕ, ◌≡◌, ◌+◌, ◌-◌, ◌*◌, ◌≤◌, inl, inr, List, [], ◌∷◌, ◌++◌, length, length-append, map, take, sum_by, Some, slice_get, refl, arith, sym, ap, ◌∙◌, subst}
+use Rattle.std.proofs.lemmas.Option.{same_Some}
 use Rattle.ae_sttype.specs.StTree.{time}
 use Rattle.ae_sttype.specs.Moves.{columns_of}
 use Rattle.ae_netlist.specs.declared.cell.NetId.{NetId}
@@ -79,9 +79,6 @@ result_late mid new rst then_rst m whole args nets late is le same up there law 
     }
 
 -- ---- one result more
-
-pub results_none : (cells : List SizedCell) (rst whole : ℕ) (ms : List Move) (args : List (List NetId)) → AreLateResults cells rst whole ms 0 args []
-results_none cells rst whole ms args = record { long = refl; each = λ r m nets f g. absurd (let no : r < 0 = slice_get_within [] r nets g in omega arith) }
 
 result_later : {a b : List SizedCell} {rst whole : ℕ} {m : Move} {args : List (List NetId)} {nets : List NetId} → Extends a b
     → IsLateResult a rst whole m args nets → IsLateResult b rst whole m args nets

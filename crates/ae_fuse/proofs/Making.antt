@@ -1,7 +1,6 @@
 -- One move for each result makes the blocks of a movement program.
 use Rattle.std.proofs.Common.{ℕ, suc, ◌≡◌, ◌+◌, ◌*◌, ◌<◌, ◌≤◌, true, List, [], ◌∷◌, length, map, take, Some, IsTrue, slice_get, refl, arith, sym, subst}
-use Rattle.std.proofs.lemmas.Bool.Decides.{nat_tests}
-use Rattle.ae_seqtype.specs.SeqTree.{SeqTree, in_size, parts_in_size}
+use Rattle.ae_seqtype.specs.SeqTree.{SeqTree, in_size}
 use Rattle.ae_seqtype.specs.ValueTree.{ValueTree, flat}
 use Rattle.ae_sttype.specs.StTree.{StTree, element_words}
 use Rattle.ae_sttype.specs.Slots.{slots}

@@ -1,22 +1,21 @@
 -- Numbers of words, parameter by parameter.
-use Rattle.std.proofs.Common.{◌≡◌, ℕ, zero, suc, ◌+◌, ◌-◌, ◌/◌, ◌%◌, ◌<◌, ◌≤◌, List, [], ◌∷◌, ◌++◌, length, take, drop, map, Some, slice_get, refl, arith, sym, ap, ◌∙◌}
+use Rattle.std.proofs.Common.{◌≡◌, ℕ, zero, suc, ◌+◌, ◌-◌, ◌/◌, ◌%◌, ◌<◌, ◌≤◌, List, [], ◌∷◌, ◌++◌, take, drop, map, Some, slice_get, refl, arith, sym, ap, ◌∙◌}
 use Rattle.std.specs.Prelude.{sum_by}
 use Rattle.std.specs.List.{range_with_len}
 use Rattle.std.proofs.Math.Seq.{drop-cons}
 use Rattle.std.proofs.lemmas.Bool.{lt-ltb, le-ltb}
-use Rattle.std.proofs.lemmas.List.{map_push, length-map, drop_all}
+use Rattle.std.proofs.lemmas.List.{map_push}
 use Rattle.std.proofs.lemmas.List.Sums.{sum_by-cons, sum_by-append}
 use Rattle.std.proofs.lemmas.Option.{get_or_from_slice_get, slice_get_within}
 use Rattle.ae_sttype.specs.declared.st_type.StType.{StType}
 use Rattle.ae_sttype.specs.StTree.{StTree, st_tree, element_words}
-use Rattle.ae_sttype.specs.Moves.{OriginTree, from_input, fixed}
+use Rattle.ae_sttype.specs.Moves.{OriginTree, from_input}
 use Rattle.ae_moves.proofs.Lists.{get_mapped, take_push}
 use Rattle.ae_moves.specs.declared.trip.Origin.{Origin}
 use Rattle.ae_moves.specs.Trees.{origin_tree}
 use Rattle.ae_rewrite.specs.StProgramTree.{st_trees}
 use Rattle.ae_flow.specs.Flow.{layout_words}
 use Rattle.ae_fuse.specs.Labels.{layout_numbers, layout_origin, labelled_origin}
-use Rattle.ae_moves.proofs.Held.{range_more as range-push}
 
 -- the words of all these layouts
 abbrev pub all_words : List StTree → ℕ
@@ -84,11 +83,6 @@ number-found ls k label rest count words t found size wide low some was =
     (λ i. from_input k (rest / wide i) (rest % wide i))
     ∙ sym (number-word (st_trees ls) label some ∙ was ∙ ap (λ ss. layout_origin k ss rest) (trees-drop ls k t found) ∙
     origin-here k (st_tree t) (drop (k + 1) (st_trees ls)) rest (omega arith))
-
-pub number-none : (ls : List StType) (k label rest : ℕ) → length ls ≤ k → 0 < label
-    → layout_origin 0 (st_trees ls) (label - 1) ≡ layout_origin k (drop k (st_trees ls)) rest → fixed 0 ≡ labelled_origin (st_trees ls) label
-number-none ls k label rest end some was =
-    sym (number-word (st_trees ls) label some ∙ was ∙ ap (λ ss. layout_origin k ss rest) (drop_all k (st_trees ls) (omega (arith, length-map ls st_tree))))
 
 pub origins-more : (ss : List StTree) (labels : List ℕ) (k label : ℕ) (old : List Origin) (own : Origin) → slice_get labels k ≡ Some label
     → map origin_tree old ≡ map (labelled_origin ss) (take k labels) → origin_tree own ≡ labelled_origin ss label

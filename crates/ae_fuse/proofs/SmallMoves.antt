@@ -1,21 +1,12 @@
 -- A move from all parameters has small costs, however many columns they have.
-use Rattle.std.proofs.Common.{ℕ, zero, suc, ◌≡◌, ◌+◌, ◌-◌, ◌*◌, ◌/◌, ◌<◌, ◌≤◌, inl, inr, Bool, true, false, cond, nat_eq, nat_lt, List, [], ◌∷◌, length, filter, sum_by, Some, slice_get, arith}
-use Rattle.std.specs.List.{range_with_len}
-use Rattle.std.proofs.lemmas.Bool.{cases_lt}
-use Rattle.std.proofs.lemmas.List.{length-map}
-use Rattle.std.proofs.lemmas.List.Sums.{length-filter, count_by-le-length, sum_by-cons}
-use Rattle.std.proofs.lemmas.List.FromFn.{length-map-range_with_len}
-use Rattle.std.proofs.lemmas.Nat.{div_below}
-use Rattle.ae_sttype.specs.StTree.{time, st_atoms, element_words}
-use Rattle.ae_sttype.specs.Moves.{ChoiceTree, SourceTree, TripTree, place, constant, age_from, changes_after, choices_of, column_delay, column_runs, columns_of, delay_of, is_held, runs_of, same_choice, stretches, trip_number}
-use Rattle.ae_sttype.proofs.Places.{slot_below}
+use Rattle.std.proofs.Common.{ℕ, ◌-◌, ◌*◌, ◌≤◌, sum_by, arith}
+use Rattle.ae_sttype.specs.StTree.{time}
+use Rattle.ae_sttype.specs.Moves.{column_delay, column_runs, columns_of, delay_of, is_held, runs_of}
 use Rattle.ae_moves.specs.Origins.{IsMove, Move, move_latency, move_trips}
-use Rattle.ae_moves.specs.Rings.{column_mems, rings}
-use Rattle.ae_moves.proofs.Words.{columns_small, latency_small, lead_le, words_pos}
+use Rattle.ae_moves.specs.Rings.{column_mems}
+use Rattle.ae_moves.proofs.Words.{columns_small, latency_small}
 use Rattle.ae_delay.specs.Moving.{costs_of_move}
-use Rattle.ae_delay.proofs.Small.{sum_below, sum_at_most, age_small, changes_few, stretches_few, filter_few, clock_small, column_small, runs_few, mems_le}
-use Rattle.ae_delay.proofs.Sourced.{numbered}
-use Rattle.ae_delay.proofs.Owned.{rings_le}
+use Rattle.ae_delay.proofs.Small.{sum_below, sum_at_most, column_small, runs_few, mems_le}
 
 -- what is sure of such a move
 pub record IsSmall (m : Move) : Type 0 where

@@ -1,6 +1,6 @@
 // The word that shows that a movement program cannot be faster.
 
-ghost use Rattle.std.specs.Prelude.{◌≡◌, ◌<◌, ◌≤◌, ◌*◌, ◌↔◌, ◌^◌, ℕ, None, Some, IfSome, length, map, slice_get};
+ghost use Rattle.std.specs.Prelude.{◌≡◌, ◌<◌, ◌≤◌, ◌*◌, ◌↔◌, ℕ, None, Some, IfSome, length, map, slice_get};
 ghost use Rattle.ae_sttype.specs.declared.st_type.StType.{StType as Layout};
 ghost use Rattle.ae_sttype.specs.StTree.{element_words, st_atoms, st_tree};
 ghost use Rattle.ae_sttype.specs.Size.{IsInSize};

@@ -1,14 +1,14 @@
 // The labels of the words of items: the number of the word of the parameters that each is, or 0 for a word 0.
 
 ghost use Rattle.std.specs.Prelude.{◌≡◌, ◌<◌, ◌≤◌, ◌*◌, ◌/◌, ◌%◌, ◌+◌, ◌++◌, ◌∷◌, [], true, if◌then◌else◌, length, map, IfOk, OnOk, Some, slice_get};
-ghost use Rattle.ae_sttype.specs.StTree.{element_words, st_atoms, st_tree};
+ghost use Rattle.ae_sttype.specs.StTree.{element_words, st_tree};
 ghost use Rattle.ae_sttype.specs.Size.{IsInSize};
 ghost use Rattle.ae_eval.specs.Stack.{paired};
 ghost use Rattle.ae_rewrite.specs.StProgramTree.{first, join, move, second, st_func_tree, st_node_tree};
 ghost use Rattle.ae_rewrite.specs.Sound.{IsMoveFrom, item_layouts};
 ghost use Rattle.ae_delay.specs.Moving.{op_move, origin_from};
 ghost use Rattle.ae_flow.specs.Flow.{layout_words, node_words, parts, words_at};
-ghost use Rattle.ae_flow.specs.Fitted.{FitsMove, FitsNode};
+ghost use Rattle.ae_flow.specs.Fitted.{FitsMove};
 ghost use Rattle.ae_gather.specs.Gathers.{origin_word};
 ghost use Rattle.ae_fuse.specs.Labels.{IsReady, is_moving, label_from};
 

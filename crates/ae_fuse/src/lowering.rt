@@ -1,13 +1,13 @@
 // The circuit of a fused program.
 
-ghost use Rattle.std.specs.Prelude.{◌≡◌, ◌<◌, ◌≤◌, ◌+◌, ◌*◌, ◌-◌, ◌++◌, ◌∷◌, ◌^◌, [], ℕ, List, IfOk, OnOk, Some, flat_map, length, map, slice_get, sum_by};
+ghost use Rattle.std.specs.Prelude.{◌≡◌, ◌<◌, ◌≤◌, ◌+◌, ◌*◌, ◌-◌, [], ℕ, List, IfOk, OnOk, Some, flat_map, length, map, slice_get, sum_by};
 ghost use Rattle.ae_sttype.specs.StTree.{st_tree};
 ghost use Rattle.ae_sttype.specs.Size.{IsInSize};
 ghost use Rattle.ae_netlist.specs.declared.cell.NetId.{NetId as Net};
 ghost use Rattle.ae_clocked.specs.Phases.{Belongs, KeepsCounters};
 ghost use Rattle.ae_ops.specs.Waves.{AreNets};
 ghost use Rattle.ae_ops.specs.Blocks.{AreBundles, stream_widths};
-ghost use Rattle.ae_moves.specs.Origins.{IsMove, Move, move_latency};
+ghost use Rattle.ae_moves.specs.Origins.{IsMove, move_latency};
 ghost use Rattle.ae_gather.specs.Gathers.{IsGather, move_of};
 ghost use Rattle.ae_rewrite.specs.StProgramTree.{st_trees};
 ghost use Rattle.ae_ports.specs.Ports.{output_ports, streams_of};

@@ -6,7 +6,7 @@ ghost use Rattle.ae_eval.specs.Stack.{IsTyped};
 ghost use Rattle.ae_rewrite.specs.Interface.{main_of};
 ghost use Rattle.ae_rewrite.specs.Scheduled.{IsSchedule};
 ghost use Rattle.ae_rewrite.specs.Sound.{IsSound};
-ghost use Rattle.ae_rewrite.specs.StProgramTree.{st_func_tree, st_func_trees, st_trees};
+ghost use Rattle.ae_rewrite.specs.StProgramTree.{st_func_tree, st_func_trees};
 ghost use Rattle.ae_trace.specs.Traces.{are_movements, is_movement};
 ghost use Rattle.ae_tidy.specs.Places.{AreMarks};
 ghost use Rattle.ae_fuse.specs.Fused.{IsFusedBy, IsFusedOf, IsMovable};

@@ -1,10 +1,9 @@
 // Nets of one cell, with their words by those of their operands.
 
-ghost use Rattle.std.specs.Prelude.{◌≡◌, ◌≢◌, ◌<◌, ◌≤◌, ◌+◌, ◌%◌, ◌==◌, ◌^◌, ℕ, List, ◌++◌, ◌∷◌, [], length, false, if◌then◌else◌, IfOk, OnOk};
+ghost use Rattle.std.specs.Prelude.{◌≡◌, ◌≢◌, ◌<◌, ◌≤◌, ◌+◌, ◌%◌, ◌==◌, ◌^◌, ℕ, List, length, false, if◌then◌else◌, IfOk, OnOk};
 ghost use Rattle.ae_word.specs.WordTable.{HasRange, is_signed, result_width_of, word_result};
-ghost use Rattle.ae_netlist.specs.Circuit.{IsAllowed, IsNet};
+ghost use Rattle.ae_netlist.specs.Circuit.{IsNet};
 ghost use Rattle.ae_netlist.specs.Runs.{Clock};
-ghost use Rattle.ae_runs.specs.SameRuns.{is_input_cell};
 ghost use Rattle.ae_gates.specs.Cells.{Grows, HasRoom, IsWord};
 
 use ae_netlist::{Cell, NetId, Netlist};

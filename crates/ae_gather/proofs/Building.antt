@@ -22,14 +22,6 @@ use Rattle.ae_gather.specs.Laws.{AreLines, AreColumns, AreFitting, FitsColumn}
 use Rattle.ae_gather.proofs.Choosing.{column_grows}
 use Rattle.ae_moves.proofs.Lists.{take_push}
 use Rattle.ae_clocked.proofs.Lining.{taps_grow}
-use Rattle.ae_clocked.proofs.Making.{tap_grows}
-
-pub lines_grow : (a b : List SizedCell) (rst : ℕ) (ins : List NetId) (ages : List (List ℕ)) (lines : List (List NetId)) → Extends a b
-    → AreLines a rst ins ages lines → AreLines b rst ins ages lines
-lines_grow a b rst ins ages lines g h = record {
-  long = h.long;
-  each = λ q all nets f t. (let l = h.each q all nets f t in record { width = l.width; net = net_later g l.net; taps = taps_grow g l.taps });
-}
 
 early_grows : (a b : List SizedCell) (rst w phase limit first : ℕ) (ins : List NetId) (choice : ℕ → Choice) (y : ℕ) → Extends a b
     → IsEarlyColumn a rst w phase limit first ins choice y → IsEarlyColumn b rst w phase limit first ins choice y
@@ -44,14 +36,6 @@ made_grows : (early : Bool) (a b : List SizedCell) (rst w : ℕ) (phase : PhaseN
     → IsMade early a rst w phase ins choice y → IsMade early b rst w phase ins choice y
 made_grows true a b rst w phase ins choice y g h = early_grows a b rst w phase.net.0 phase.limit (first_phase phase) ins choice y g h
 made_grows false a b rst w phase ins choice y g h = column_grows a b rst w phase.net.0 phase.limit ins choice y g h
-
-pub columns_grow : (a b : List SizedCell) (rst : ℕ) (counters : Counters) (ins : List NetId) (widths : List ℕ) (early : List Bool) (columns : List (List Step))
-    (out : List NetId) → Extends a b → AreColumns a rst counters ins widths early columns out → AreColumns b rst counters ins widths early columns out
-columns_grow a b rst counters ins widths early columns out g h = record {
-  long = h.long;
-  each = λ q w steps y f t u. made_grows (is_early early q) a b rst w (counter_for (is_early early q) counters) ins (λ p. choice_in p steps) y.0 g
-      (h.each q w steps y f t u);
-}
 
 take_length : {X : Type 0} (xs : List X) (i : ℕ) (x : X) → slice_get xs i ≡ Some x → length (take i xs) ≡ i
 take_length xs i x found = let l : i < length xs = slice_get_within xs i x found in length-take-le i xs (omega arith)

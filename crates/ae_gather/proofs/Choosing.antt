@@ -13,7 +13,6 @@ use Rattle.ae_netlist.specs.Runs.{Clock, word_at, InEveryResetRun, InEveryRunFro
 use Rattle.ae_netlist.proofs.Growing.{extends_trans, net_later}
 use Rattle.ae_netlist.proofs.Carried.{carries_extends, carries_trans}
 use Rattle.ae_clocked.specs.Signals.{IsConstant, IsResult}
-use Rattle.ae_clocked.specs.Delays.{IsTap}
 use Rattle.ae_clocked.specs.Phases.{IsMark}
 use Rattle.ae_clocked.proofs.Belonging.{counter_grows}
 use Rattle.ae_moves.specs.declared.trip.Choice.{Choice}
@@ -21,14 +20,10 @@ use Rattle.ae_moves.specs.declared.trip.Choice.TheVariants.{Delayed, Constant}
 use Rattle.ae_gather.specs.declared.trips.PhaseNet.{PhaseNet}
 use Rattle.ae_gather.specs.declared.trips.Step.{Step}
 use Rattle.ae_gather.specs.Plans.{later, choice_in}
-use Rattle.ae_gather.specs.Columns.{net_of, age_of, taken, IsMarkTo, IsSource, IsPhaseNet, IsReady, AreReady, IsColumn}
+use Rattle.ae_gather.specs.Columns.{age_of, taken, IsMarkTo, IsSource, IsPhaseNet, IsReady, AreReady, IsColumn}
 use Rattle.ae_clocked.proofs.Making.{tap_grows}
 
 -- ---- what goes on as a netlist grows
-
-pub source_grows : (a b : List SizedCell) (rst w : ℕ) (ins : List NetId) (choice : Choice) (y : ℕ) → Extends a b → IsSource a rst w ins choice y
-    → IsSource b rst w ins choice y
-source_grows a b rst w ins choice y g h = record { net = net_later g h.net; words = λ all e run r. h.words all (extends_trans g e) run r }
 
 pub column_grows : (a b : List SizedCell) (rst w phase limit : ℕ) (ins : List NetId) (choice : ℕ → Choice) (y : ℕ) → Extends a b
     → IsColumn a rst w phase limit ins choice y → IsColumn b rst w phase limit ins choice y
@@ -63,10 +58,6 @@ all_ready_grows a b rst w v ins lines steps g h = record {
 }
 
 -- ---- sources
-
-pub tap_source : (cells : List SizedCell) (rst w : ℕ) (ins : List NetId) (column age y : ℕ) → IsTap cells rst w (net_of ins column) age y
-    → IsSource cells rst w ins (Delayed column age) y
-tap_source cells rst w ins column age y h = record { net = h.net; words = λ all e run r start reset c le l. h.words all e run r start reset c le l }
 
 pub constant_source : (cells : List SizedCell) (from rst w : ℕ) (ins : List NetId) (k y : ℕ) → IsNet cells y w
     → InEveryRunFrom from cells (λ run. IsConstant run y k) → IsSource cells rst w ins (Constant k) y
@@ -188,19 +179,6 @@ choice_more p steps i step some l is =
     let n : length (take i steps) ≡ i = length-take-le i steps (omega arith) in
     ap (choice_in p) (take_more steps i step l ∙ ap (λ s. take i steps ++ s ∷ []) (get_or_from_slice_get steps i step step is)) ∙
     choice_push p (take i steps) step (omega arith)
-
-empty_choice : (p : ℕ) (steps : List Step) → length steps ≡ 0 → choice_in p steps ≡ Constant 0
-unfolding choice_in
-empty_choice p [] e = refl
-empty_choice p (s ∷ steps) e = absurd (omega (arith, e))
-
-pub empty_columns : (cells : List SizedCell) (from rst w phase limit : ℕ) (ins : List NetId) (steps : List Step) (r : Result NetId NetFault) → length steps ≡ 0
-    → IfOk r (λ y. IsNet cells y.0 w) → IfOk r (λ y. InEveryRunFrom from cells (λ run. IsConstant run y.0 0))
-    → IfOk r (λ y. IsColumn cells rst w phase limit ins (λ p. choice_in p steps) y.0)
-empty_columns cells from rst w phase limit ins steps (Ok y) e net h =
-    column_same cells rst w phase limit ins (λ p. Constant 0) (λ p. choice_in p steps) y.0 (λ p. empty_choice p steps e)
-    (column_of cells rst w phase limit ins (Constant 0) y.0 (constant_source cells from rst w ins 0 y.0 net h))
-empty_columns cells from rst w phase limit ins steps (Err x) e net h = h
 
 pub first_take : (steps : List Step) (step : Step) → slice_get steps 0 ≡ Some step → take 1 steps ≡ step ∷ []
 first_take [] step e = cc

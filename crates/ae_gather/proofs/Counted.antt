@@ -12,10 +12,6 @@ counted_none a m = record { registers = omega arith; tests = omega arith }
 pub counted_trans : {a b c : Circuit} {k m n r s t u : ℕ} → Counted a b k m r t → Counted b c m n s u → Counted a c k n (r + s) (t + u)
 counted_trans p q = record { registers = omega (arith, p.registers, q.registers); tests = omega (arith, p.tests, q.tests) }
 
--- where nothing else is made
-pub counted_plain : {a b : Circuit} {r t : ℕ} (m : ℕ) → Counted a b 0 0 r t → Counted a b m m r t
-counted_plain m p = record { registers = omega (arith, p.registers); tests = omega (arith, p.tests) }
-
 pub counted_most : {a b : Circuit} {m n r t : ℕ} (s u : ℕ) → r ≤ s → t ≤ u → Counted a b m n r t → Counted a b m n s u
 counted_most s u lr lt p = record { registers = omega (arith, p.registers, lr); tests = omega (arith, p.tests, lt) }
 

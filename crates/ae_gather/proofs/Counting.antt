@@ -65,11 +65,6 @@ runs_on (x ∷ xs) z e =
     let d : changes_after same_choice x (xs ++ z ∷ []) ≡ changes_after same_choice x xs + 0 = rw t at c in
     omega (arith, d)
 
--- any choice makes at most one
-runs_more : (xs : List ChoiceTree) (z : ChoiceTree) → stretches same_choice xs ≤ stretches same_choice (xs ++ z ∷ [])
-runs_more [] z = omega arith
-runs_more (x ∷ xs) z = omega (arith, changes_push x xs z)
-
 pub same_only : (x y : ChoiceTree) → same_choice x y ≡ true → x ≡ y
 same_only (delayed p a) (delayed q b) e = elim (cases_eq p q) [
   | inl e1 ↦ elim (cases_eq a b) [

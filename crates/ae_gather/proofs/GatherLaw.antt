@@ -1,21 +1,22 @@
 -- A gather that makes every trip keeps the law of blocks of its move.
-use Rattle.std.proofs.Common.{ℕ, zero, suc, ◌≡◌, ◌+◌, ◌-◌, ◌*◌, ◌/◌, ◌%◌, ◌<◌, ◌≤◌, ◌^◌, inl, inr, Bool, true, false, IsTrue, nat_le, ◌&&◌, List, ◌∷◌, ◌++◌, [], length, map, sum_by, take, Some, slice_get, get_or, option_map, arith, refl, sym, ap, ◌∙◌, subst}
+use Rattle.std.proofs.Common.{ℕ, zero, suc, ◌≡◌, ◌+◌, ◌-◌, ◌*◌, ◌/◌, ◌%◌, ◌<◌, ◌≤◌, ◌^◌, false, List, ◌∷◌, ◌++◌, [], length, map, sum_by, take, Some, slice_get, get_or, option_map, arith, refl, sym, ap, ◌∙◌, subst}
 use Rattle.std.proofs.Math.Nat.{add-mul}
-use Rattle.std.proofs.lemmas.Bool.Decides.{nat_tests}
 use Rattle.std.proofs.lemmas.List.{length-map}
 use Rattle.std.proofs.lemmas.List.Sums.{sum_by-cons}
 use Rattle.std.proofs.lemmas.Nat.{div-add-mod', div-mul-add, div_below, mod-mul-add, mod_below}
 use Rattle.std.proofs.lemmas.Option.{slice_get_within, slice_get-get_or, get_or_from_slice_get}
-use Rattle.ae_word.specs.AtomTree.{AtomTree, WordKind, word, pair, atom_kinds, atom_in_size, unsigned_word, widths_in_range}
+use Rattle.ae_word.specs.AtomTree.{WordKind, word, atom_kinds, unsigned_word}
+use Rattle.ae_word.proofs.Ranges.{width_there}
 use Rattle.ae_word.proofs.Sizes.{length-atom_kinds}
 use Rattle.ae_seqtype.specs.SeqTree.{repeated}
 use Rattle.ae_seqtype.proofs.Sizes.{length-repeated}
 use Rattle.ae_sttype.specs.declared.st_type.Slot.{Slot}
-use Rattle.ae_sttype.specs.StTree.{StTree, atom, tseq, sseq, time, lanes, st_atoms, element_atom, element_words}
+use Rattle.ae_sttype.specs.StTree.{StTree, atom, sseq, time, lanes, st_atoms, element_atom, element_words}
 use Rattle.ae_sttype.specs.Slots.{slots}
 use Rattle.ae_sttype.specs.Holds.{Holds}
-use Rattle.ae_sttype.specs.Size.{HasLengths, IsInSize}
+use Rattle.ae_sttype.specs.Size.{IsInSize}
 use Rattle.ae_sttype.specs.Moves.{OriginTree, SourceTree, TripTree, place, constant, from_input, fixed, columns_of, column_number, first_column, source_of}
+use Rattle.ae_sttype.proofs.Bounds.{sized_atom}
 use Rattle.ae_sttype.proofs.Places.{length-slots, slot_below, slot_of, stands_from_get, row_below as in_row}
 use Rattle.ae_netlist.specs.declared.cell.NetId.{NetId}
 use Rattle.ae_netlist.specs.declared.cell.SizedCell.{SizedCell}
@@ -33,7 +34,7 @@ use Rattle.ae_moves.specs.Trees.{source_tree, trip_tree}
 use Rattle.ae_moves.specs.Origins.{HasOrigin, IsMove, Move, move_latency, move_trips, width_at}
 use Rattle.ae_gather.specs.Gathers.{AreWidths, gather_part, origin_word}
 use Rattle.ae_gather.specs.Joins.{AreJoined}
-use Rattle.ae_gather.proofs.OneList.{get_append_cases, get_right}
+use Rattle.ae_gather.proofs.OneList.{get_right}
 use Rattle.ae_moves.proofs.Lists.{get_mapped}
 use Rattle.ae_moves.proofs.Words.{column_below, origin_at, sizes_of, trip_at, trip_there, word_below, words_pos}
 
@@ -153,30 +154,6 @@ flat_nets cells ins bundles flat firsts h joined q l =
 
 -- ---- widths of output columns
 
-sized_atom : (s : StTree) → HasLengths s → IsTrue (atom_in_size (element_atom s))
-sized_atom (atom a) h = h
-sized_atom (tseq n i t) h = sized_atom t h.1
-sized_atom (sseq n t) h = sized_atom t h.1
-
-both_true : (a b : Bool) → (a && b) ≡ true → (a ≡ true) × (b ≡ true)
-both_true true b h = (refl, h)
-both_true false b h = cc
-
-kind_range : (a : AtomTree) (j : ℕ) (k : WordKind) → widths_in_range a ≡ true → slice_get (atom_kinds a) j ≡ Some k → (1 ≤ k.width) × (k.width ≤ 64)
-kind_range (word x) zero k h f =
-    let e : x ≡ k = cc in
-    let b = both_true (nat_le 1 x.width) (nat_le x.width 64) h in
-    let low : 1 ≤ x.width = grind (arith, nat_tests, b.0) in
-    let high : x.width ≤ 64 = grind (arith, nat_tests, b.1) in
-    rw (← e) (low, high)
-kind_range (word x) (suc j) k h f = cc
-kind_range (pair a b) j k h f =
-    let both = both_true (widths_in_range a) (widths_in_range b) h in
-    elim (get_append_cases (atom_kinds a) (atom_kinds b) j k k f) [
-      | inl v ↦ kind_range a j k both.0 v
-      | inr v ↦ kind_range b (j - length (atom_kinds a)) k both.1 v
-    ]
-
 width_range : (s : StTree) (j width : ℕ) → IsInSize s → width_at s j ≡ Some width → (1 ≤ width) × (width ≤ 64)
 width_range s j width size wide =
     let l : j < length (atom_kinds (element_atom s)) = omega (arith, word_below s j width wide, length-atom_kinds (element_atom s)) in
@@ -185,7 +162,7 @@ width_range s j width size wide =
     let f : slice_get (atom_kinds (element_atom s)) j ≡ Some k = slice_get-get_or (atom_kinds (element_atom s)) j none l in
     let e : Some k.width ≡ Some width = rw f at wide in
     let same : k.width ≡ width = cc in
-    rw (← same) (kind_range (element_atom s) j k (both_true (widths_in_range (element_atom s)) _ (sized_atom s size.lengths)).0 f)
+    rw (← same) (width_there (element_atom s) j k (sized_atom s size.lengths) f)
 
 abbrev FitsTree : List SizedCell → List NetId → ℕ → SourceTree → Type 0
 FitsTree cells flat w (place k q) = IsNet cells (net_of flat q) w

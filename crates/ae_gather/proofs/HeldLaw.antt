@@ -1,7 +1,6 @@
 -- A register that is written once a period holds the word for a period.
-use Rattle.std.proofs.Common.{Bool, ℕ, zero, suc, ◌≡◌, ◌≢◌, ◌+◌, ◌-◌, ◌*◌, ◌<◌, ◌≤◌, ◌/◌, ◌%◌, ◌==◌, if◌then◌else◌, true, false, inl, inr, List, length, arith, refl, sym, ◌∙◌, eq-eqb}
-use Rattle.std.proofs.lemmas.Bool.{cases_lt, ne_eqb}
-use Rattle.std.proofs.Math.Nat.{div-add-mod, mul-le-mul_left}
+use Rattle.std.proofs.Common.{ℕ, zero, suc, ◌≡◌, ◌≢◌, ◌+◌, ◌-◌, ◌<◌, ◌≤◌, ◌==◌, if◌then◌else◌, true, false, List, length, arith, sym, ◌∙◌, eq-eqb}
+use Rattle.std.proofs.lemmas.Bool.{ne_eqb}
 use Rattle.ae_netlist.specs.Runs.{Clock, word_at, HasWords}
 use Rattle.ae_clocked.specs.Phases.{phase_of}
 use Rattle.ae_gather.specs.Held.{IsKept, Holds}

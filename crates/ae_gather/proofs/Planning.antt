@@ -108,13 +108,6 @@ demanded_old old new choice tap (Constant v) place h p = tt
 
 -- ---- one trip more
 
-pub none_push : {X : Type 0} (xs : List (List X)) → ((q : ℕ) (x : List X) → slice_get xs q ≡ Some x → x ≡ []) → (q : ℕ) (x : List X)
-    → slice_get (xs ++ [] ∷ []) q ≡ Some x → x ≡ []
-none_push xs h q x found = elim (get_push_cases xs [] q x found) [
-  | inl w ↦ h q x w.0
-  | inr w ↦ sym w.1
-]
-
 pub planned_none : (d ins outs : ℕ) (trips : List Trip) (lines : List (List ℕ)) (columns : List (List Step)) → length lines ≡ ins → length columns ≡ outs
     → ((q : ℕ) (ages : List ℕ) → slice_get lines q ≡ Some ages → ages ≡ []) → ((q : ℕ) (steps : List Step) → slice_get columns q ≡ Some steps → steps ≡ [])
     → Planned d ins outs trips 0 lines columns

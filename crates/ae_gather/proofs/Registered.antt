@@ -39,12 +39,6 @@ delayed_column a b rst w phase limit first q age f ins choice x (Ok y) g late h 
 }
 delayed_column a b rst w phase limit first q age f ins choice x (Err e) g late h net next = net
 
--- the word of the choice between a constant in reset and a net
-muxed : (run : List Clock) (t rst k x y k0 : ℕ) → word_at run t k ≡ k0
-    → word_at run t y ≡ (if word_at run t rst == 1 then word_at run t k else word_at run t x)
-    → word_at run t y ≡ (if word_at run t rst == 1 then k0 else word_at run t x)
-muxed run t rst k x y k0 ek ey = rw ek at ey
-
 -- a register that is set in reset, where the word of the first clock is fixed
 pub reset_column : (a b : List SizedCell) (rst w phase limit first v fk fm fy : ℕ) (ins : List NetId) (choice : ℕ → Choice) (k m reset_net : NetId) (x : NetId)
     (r : Result NetId NetFault) → reset_net.0 ≡ rst → Extends a b → choice first ≡ Constant v

@@ -1,8 +1,7 @@
 -- The rings of input columns, and what output columns read from them, one more at a time.
-use Rattle.std.proofs.Common.{ℕ, ◌≡◌, ◌+◌, ◌-◌, ◌<◌, Bool, true, false, List, ◌∷◌, ◌++◌, [], length, get_or, Option, Some, None, inl, inr, arith, refl, sym, ap, ◌∙◌}
+use Rattle.std.proofs.Common.{ℕ, ◌≡◌, ◌+◌, ◌-◌, ◌<◌, Bool, true, false, List, ◌∷◌, ◌++◌, [], length, get_or, Option, Some, None, inl, inr, arith, sym, ap, ◌∙◌}
 use Rattle.std.proofs.lemmas.Bool.{cases_eq, cases_lt}
 use Rattle.std.proofs.lemmas.List.{length_push}
-use Rattle.std.proofs.lemmas.Option.{slice_get_within}
 use Rattle.ae_netlist.specs.declared.cell.NetId.{NetId}
 use Rattle.ae_netlist.specs.declared.cell.SizedCell.{SizedCell}
 use Rattle.ae_netlist.specs.Circuit.{Extends, IsNet}
@@ -29,15 +28,6 @@ pub rings_grow : {a b : List SizedCell} {count rst : ℕ} {reads : Reads} {ins :
     → AreRings count a rst reads ins rings → AreRings count b rst reads ins rings
 rings_grow g h = record { long = h.long; each = λ x ring f. ring_later g (h.each x ring f); has = h.has }
 
-pub rings_begin : (cells : List SizedCell) (rst : ℕ) (reads : Reads) (ins : List NetId) (rings : List (Option Ring)) → rings ≡ []
-    → AreRings 0 cells rst reads ins rings
-rings_begin cells rst reads ins rings e =
-    rw e (record {
-      long = refl;
-      each = λ x ring f. (let l : x < 0 = slice_get_within [] x (Some ring) f in absurd (omega arith));
-      has = λ x l on. absurd (omega arith);
-    })
-
 pub rings_more : (count : ℕ) (a b : List SizedCell) (rst : ℕ) (reads : Reads) (ins : List NetId) (rings : List (Option Ring)) (made : Option Ring) (has : Bool)
     → Extends a b → AreRings count a rst reads ins rings
     → ((ring : Ring) → made ≡ Some ring → RingOf b rst reads.bits (net_of ins count) ring) → (has ≡ true → (ring : Ring) × (made ≡ Some ring))
@@ -59,12 +49,6 @@ rings_more count a b rst reads ins rings made has g h new there is = record {
   ];
 }
 
-pub rings_whole : (count n : ℕ) (cells : List SizedCell) (rst : ℕ) (reads : Reads) (ins : List NetId) (rings : List (Option Ring)) → count ≡ n
-    → AreRings count cells rst reads ins rings → AreRings n cells rst reads ins rings
-rings_whole count n cells rst reads ins rings e h = rw e at h
-
--- ---- what is read
-
 reads_net : {a b : List SizedCell} {rst bits x place y : ℕ} → Extends a b → ReadsRing a rst bits x place y → ReadsRing b rst bits x place y
 reads_net g h =
     record {
@@ -81,9 +65,6 @@ column_later g h = record { net = (h.net.0, net_later g h.net.1); words = λ x f
 pub reads_later : {a b : List SizedCell} {count rst : ℕ} {reads : Reads} {ins places all : List NetId} → Extends a b
     → AreReads count a rst reads ins places all → AreReads count b rst reads ins places all
 reads_later g h = record { long = h.long; first = h.first; each = λ q l. column_later g (h.each q l) }
-
-pub reads_begin : (cells : List SizedCell) (rst : ℕ) (reads : Reads) (ins places all : List NetId) → all ≡ ins → AreReads 0 cells rst reads ins places all
-reads_begin cells rst reads ins places all e = rw e (record { long = omega arith; first = λ q l. refl; each = λ q l. absurd (omega arith) })
 
 pub reads_more : (count : ℕ) (a b : List SizedCell) (rst : ℕ) (reads : Reads) (ins places all : List NetId) (y : NetId) → Extends a b
     → AreReads count a rst reads ins places all

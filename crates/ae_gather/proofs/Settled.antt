@@ -19,7 +19,7 @@ use Rattle.ae_moves.specs.Trees.{source_tree, trip_tree}
 use Rattle.ae_moves.specs.declared.trip.Source.{Source}
 use Rattle.ae_moves.specs.declared.trip.Source.TheVariants.{Place, Fixed}
 use Rattle.ae_moves.specs.declared.trip.Trip.{Trip}
-use Rattle.ae_moves.proofs.Held.{held_use, sum_more, both}
+use Rattle.ae_moves.proofs.Held.{held_use, sum_more}
 use Rattle.ae_moves.proofs.Lists.{fold_ge, get_mapped}
 use Rattle.ae_gather.specs.Columns.{net_of}
 use Rattle.ae_gather.specs.Held.{AreKept, Holds, held_phase, is_kept, kept_count, settled, settled_source}

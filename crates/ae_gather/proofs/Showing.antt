@@ -1,5 +1,5 @@
 -- Columns of fixed words show the places that are read.
-use Rattle.std.proofs.Common.{ℕ, ◌≡◌, ◌+◌, ◌-◌, ◌%◌, ◌<◌, ◌≤◌, Bool, true, false, List, [], length, Some, slice_get, get_or, arith, ap, ◌∙◌}
+use Rattle.std.proofs.Common.{ℕ, ◌≡◌, ◌+◌, ◌-◌, ◌%◌, ◌<◌, ◌≤◌, Bool, false, List, [], length, Some, slice_get, get_or, arith, ap, ◌∙◌}
 use Rattle.std.proofs.lemmas.Option.{slice_get_within, slice_get-get_or}
 use Rattle.ae_netlist.specs.declared.cell.NetId.{NetId}
 use Rattle.ae_netlist.specs.declared.cell.SizedCell.{SizedCell}
@@ -14,7 +14,7 @@ use Rattle.ae_gather.specs.declared.trips.Counters.{Counters}
 use Rattle.ae_gather.specs.declared.trips.PhaseNet.{PhaseNet}
 use Rattle.ae_gather.specs.declared.trips.Step.{Step}
 use Rattle.ae_gather.specs.Columns.{IsColumn, IsPhaseNet, net_of, taken}
-use Rattle.ae_gather.specs.Early.{counter_for, is_early}
+use Rattle.ae_gather.specs.Early.{is_early}
 use Rattle.ae_gather.specs.Laws.{AreColumns, AreFitting, AreLines, FitsColumn}
 use Rattle.ae_gather.specs.Plans.{AreWithin, IsPlan, choice_from, choice_in}
 use Rattle.ae_gather.specs.Readers.{ShowsPlaces}
@@ -66,11 +66,6 @@ fits_placed cells d count reads trips places all h n trip f = let o = placed_tri
 pub no_lines : (cells : List SizedCell) (rst : ℕ) (ages : List (List ℕ)) → length ages ≡ 0 → AreLines cells rst [] ages []
 no_lines cells rst ages none =
     record { long = omega (arith, none); each = λ q all nets f t. (let l : q < length ages = slice_get_within ages q all f in absurd (omega (arith, none))) }
-
-pub phase_for : (cells : List SizedCell) (rst : ℕ) (phase : PhaseNet) (counters : Counters) (early : Bool) → counters.later ≡ phase → counters.sooner ≡ phase
-    → IsPhaseNet cells rst phase → IsPhaseNet cells rst (counter_for early counters)
-phase_for cells rst phase counters true a b h = rw b h
-phase_for cells rst phase counters false a b h = rw a h
 
 pub shows_later : (a b : List SizedCell) (rst period d arrival : ℕ) (nets : List NetId) (places : List Trip) → Extends a b
     → ShowsPlaces a rst period d arrival nets places → ShowsPlaces b rst period d arrival nets places

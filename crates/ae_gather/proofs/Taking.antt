@@ -1,12 +1,11 @@
 -- A held word is the one that a choice of any age takes.
-use Rattle.std.proofs.Common.{ℕ, ◌≡◌, ◌+◌, ◌-◌, ◌*◌, ◌<◌, ◌≤◌, ◌/◌, ◌%◌, inl, inr, ◌⊎◌, List, length, arith, sym, ap, ◌∙◌}
-use Rattle.std.proofs.lemmas.Bool.{cases_lt}
+use Rattle.std.proofs.Common.{ℕ, ◌≡◌, ◌+◌, ◌-◌, ◌*◌, ◌<◌, ◌≤◌, ◌/◌, ◌%◌, List, length, arith, sym, ap, ◌∙◌}
 use Rattle.std.proofs.lemmas.Nat.{mod_below}
-use Rattle.std.proofs.Math.Nat.{add-mul-mod_self_left, div-add-mod, mod-add-mod, mod-eq_of_lt, mod-eq-sub-mod}
+use Rattle.std.proofs.Math.Nat.{add-mul-mod_self_left, div-add-mod, mod-add-mod, mod-eq_of_lt}
 use Rattle.ae_netlist.specs.Runs.{Clock, word_at}
 use Rattle.ae_clocked.specs.Phases.{phase_of}
 use Rattle.ae_gather.specs.Held.{Holds}
-use Rattle.ae_clocked.proofs.Marked.{near, apart}
+use Rattle.ae_clocked.proofs.Marked.{apart}
 
 -- in phase p the word of age p + d - k stood in the phase that belongs to clock k of the input's block
 pub phase_back : (t o d k p a c : ℕ) → o < t → p < t → k ≤ p + d → p + d - k ≡ a → a ≤ t → a ≤ c → phase_of t o c ≡ p

@@ -3,7 +3,6 @@
 ghost use Rattle.std.specs.Prelude.{◌≡◌, ◌<◌, ◌≤◌, ◌+◌, ◌*◌, ◌^◌, ◌∷◌, [], if◌then◌else◌, ℕ, List, length, count_by, sum_by, nat_lt, Some, slice_get};
 ghost use Rattle.ae_clocked.specs.Delays.{greatest_of, line_cells};
 ghost use Rattle.ae_clocked.specs.Rings.{rings};
-ghost use Rattle.ae_gather.specs.declared.trips.Step.{Step as Part};
 ghost use Rattle.ae_gather.specs.Counts.{early_count, line_registers, reader_count, reader_registers, steps_tests};
 ghost use Rattle.ae_gather.specs.Plans.{line_mems, steps_cells};
 ghost use Rattle.ae_gather.specs.Reads.{ring_count};

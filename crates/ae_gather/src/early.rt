@@ -1,6 +1,6 @@
 // Which columns are chosen a clock early, and what is planned then.
 
-ghost use Rattle.std.specs.Prelude.{◌≡◌, ◌<◌, ◌≤◌, ◌+◌, ◌^◌, ◌++◌, ◌∷◌, [], ℕ, true, false, List, length, map, sum_by, IfOk, OnOk, Some, slice_get};
+ghost use Rattle.std.specs.Prelude.{◌≡◌, ◌<◌, ◌≤◌, ◌+◌, ◌^◌, ℕ, true, false, List, length, map, sum_by, IfOk, Some, slice_get};
 ghost use Rattle.ae_sttype.specs.Moves.{column_delay, delay_of, runs_of};
 ghost use Rattle.ae_clocked.specs.Delays.{greatest_of};
 ghost use Rattle.ae_moves.specs.Trees.{trip_tree};

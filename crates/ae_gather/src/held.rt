@@ -8,7 +8,7 @@ ghost use Rattle.ae_moves.specs.declared.trip.Trip.{Trip as Way};
 ghost use Rattle.ae_gather.specs.Columns.{net_of};
 ghost use Rattle.ae_gather.specs.Counts.{Counted};
 ghost use Rattle.ae_gather.specs.Held.{AreKept, IsHeld, Keeps, held_phase, kept_count, settled, settled_place};
-ghost use Rattle.ae_gather.specs.Plans.{IsIn, IsReached};
+ghost use Rattle.ae_gather.specs.Plans.{IsIn};
 
 use crate::cost::one_if;
 use crate::counters::offset;

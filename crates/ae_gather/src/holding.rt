@@ -1,6 +1,6 @@
 // One register that keeps the word of one clock for a period.
 
-ghost use Rattle.std.specs.Prelude.{◌≡◌, ◌<◌, ◌≤◌, ◌+◌, ◌^◌, ℕ, length, IfOk};
+ghost use Rattle.std.specs.Prelude.{◌<◌, ◌^◌, ℕ, length, IfOk};
 ghost use Rattle.ae_netlist.specs.Circuit.{IsNet, width_of};
 ghost use Rattle.ae_netlist.specs.Runs.{InEveryRunFrom};
 ghost use Rattle.ae_clocked.specs.Signals.{Adds, IsFullAt};

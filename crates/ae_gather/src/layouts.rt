@@ -1,7 +1,7 @@
 // The widths of the columns of a layout.
 
 ghost use Rattle.std.specs.Prelude.{◌≡◌, ◌<◌, ◌*◌, ◌%◌, length, IfOk, Some};
-ghost use Rattle.ae_sttype.specs.StTree.{element_words, st_atoms, st_tree};
+ghost use Rattle.ae_sttype.specs.StTree.{element_words, st_tree};
 ghost use Rattle.ae_sttype.specs.Size.{IsInSize};
 ghost use Rattle.ae_sttype.specs.Moves.{columns_of};
 ghost use Rattle.ae_moves.specs.Origins.{width_at};

@@ -11,7 +11,7 @@ ghost use Rattle.ae_clocked.specs.Delays.{line_cells};
 ghost use Rattle.ae_gather.specs.declared.trips.Step.{Step as Part};
 ghost use Rattle.ae_gather.specs.Counts.{Counted, early_count, line_registers, schedule_registers, steps_tests};
 ghost use Rattle.ae_gather.specs.Early.{AreInTime, counter_for, hastened, is_early};
-ghost use Rattle.ae_gather.specs.Plans.{AreInOrder, AreUsed, AreWithin, IsPlan, choice_in, line_mems, steps_cells};
+ghost use Rattle.ae_gather.specs.Plans.{AreInOrder, AreUsed, AreWithin, IsPlan, line_mems, steps_cells};
 ghost use Rattle.ae_gather.specs.Columns.{AreReady, IsPhaseNet, net_of};
 ghost use Rattle.ae_moves.specs.Rings.{mems_of, registers_of};
 ghost use Rattle.ae_moves.specs.Trees.{trip_tree};

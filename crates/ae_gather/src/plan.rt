@@ -4,7 +4,7 @@ ghost use Rattle.std.specs.Prelude.{◌≡◌, ◌<◌, ◌≤◌, ◌+◌, ◌-
 ghost use Rattle.ae_sttype.specs.Moves.{column_delay, delay_of, runs_of};
 ghost use Rattle.ae_clocked.specs.Delays.{greatest_of};
 ghost use Rattle.ae_gather.specs.declared.trips.Step.{Step as Part};
-ghost use Rattle.ae_gather.specs.Plans.{choice_of, choice_from, IsReached, AreInOrder, AreWithin, IsPlan, demanded, IsInLines};
+ghost use Rattle.ae_gather.specs.Plans.{choice_of, IsReached, AreInOrder, AreWithin, IsPlan, demanded, IsInLines};
 ghost use Rattle.ae_moves.specs.Trees.{trip_tree};
 
 use crate::trips::Step;

@@ -1,6 +1,6 @@
 // Output columns that read words from rings: what is planned, and what is built.
 
-ghost use Rattle.std.specs.Prelude.{◌≡◌, ◌<◌, ◌≤◌, ◌+◌, ◌*◌, sum_by, min, map, ◌^◌, [], if◌then◌else◌, ℕ, List, Option, true, length, get_or, take, IfOk, OnOk, Some, slice_get};
+ghost use Rattle.std.specs.Prelude.{◌≡◌, ◌<◌, ◌≤◌, ◌+◌, ◌*◌, sum_by, min, map, ◌^◌, [], if◌then◌else◌, ℕ, List, Option, true, length, get_or, IfOk, OnOk, Some, slice_get};
 ghost use Rattle.ae_netlist.specs.declared.cell.NetId.{NetId as Net};
 ghost use Rattle.ae_netlist.specs.Circuit.{IsNet, width_of};
 ghost use Rattle.ae_netlist.specs.Counts.{AreWhole, count_of, is_memory, is_mul};
@@ -11,7 +11,7 @@ ghost use Rattle.ae_clocked.specs.Rings.{AddsMemories};
 ghost use Rattle.ae_clocked.specs.declared.ring.Ring.{Ring as Ringed};
 ghost use Rattle.ae_gather.specs.Columns.{net_of};
 ghost use Rattle.ae_gather.specs.Counts.{Counted, IsSpare, reader_count, reader_registers, schedule_registers, steps_tests};
-ghost use Rattle.ae_gather.specs.Early.{AreInTime, hastened, is_early};
+ghost use Rattle.ae_gather.specs.Early.{AreInTime, hastened};
 ghost use Rattle.ae_gather.specs.Laws.{AreFitting, FitsColumn, MakesTrips};
 ghost use Rattle.ae_gather.specs.Plans.{AreInOrder, AreUsed, AreWithin, IsPlan, line_mems, steps_cells};
 ghost use Rattle.ae_gather.specs.Readings.{IsNoDearer, IsReading};

@@ -1,16 +1,13 @@
 // The stage of a move.
 
-ghost use Rattle.std.specs.Prelude.{◌≡◌, ◌≤◌, ◌+◌, ◌*◌, ◌%◌, ◌↔◌, ℕ, length, map, IsTrue, IsSome, IfOk, IfSome, OnOk, Some, slice_get};
+ghost use Rattle.std.specs.Prelude.{◌≡◌, ◌≤◌, ◌+◌, ◌↔◌, length, map, IsSome, IfOk, IfSome, OnOk, Some};
 ghost use Rattle.ae_netlist.specs.Counts.{AreWhole, count_of, is_memory, is_mul};
 ghost use Rattle.ae_clocked.specs.Signals.{Grows, IsFullAt};
 ghost use Rattle.ae_clocked.specs.Phases.{Belongs, KeepsCounters, made_of};
 ghost use Rattle.ae_ops.specs.Waves.{AreNets};
 ghost use Rattle.ae_ops.specs.Blocks.{AreBundles, KeepsLaw, stream_widths};
 ghost use Rattle.ae_gather.specs.Counts.{Counted};
-ghost use Rattle.ae_sttype.specs.declared.st_type.StType.{StType as Layout};
-ghost use Rattle.ae_sttype.specs.StTree.{element_words, st_atoms, st_tree, time};
-ghost use Rattle.ae_sttype.specs.Size.{IsInSize};
-ghost use Rattle.ae_moves.specs.Origins.{AllInSize, AreOrigins, HasOrigin, IsMove, width_at};
+ghost use Rattle.ae_sttype.specs.StTree.{st_tree, time};
 ghost use Rattle.ae_moves.specs.Trees.{origin_tree};
 ghost use Rattle.ae_gather.specs.Gathers.{IsGather, gather_part, move_of, move_registers, move_tests};
 

@@ -1,2 +1,1 @@
 pub mod TellingLemmas
-pub mod CountLemmas

@@ -1,18 +1,13 @@
 -- How calls that take or append one after another join.
-use Rattle.std.proofs.Common.{◌≡◌, ℕ, ◌+◌, ◌≤◌, List, [], ◌++◌, length, take, drop, OnErr, Result, Ok, Err, Option, None, Some, refl, sym, ap, ◌∙◌, subst, append_assoc, arith, length-append}
-use Rattle.std.proofs.lemmas.List.{append-nil, take-append-drop, drop_at, drop-drop, length-take-le, take-take}
+use Rattle.std.proofs.Common.{◌≡◌, ℕ, ◌+◌, ◌≤◌, List, ◌++◌, length, take, drop, OnErr, Result, Ok, Err, Option, None, Some, refl, sym, ap, ◌∙◌, subst, append_assoc, arith, length-append}
+use Rattle.std.proofs.lemmas.List.{take-append-drop, drop_at, drop-drop, length-take-le, take-take}
 use Rattle.std.proofs.Math.Seq.{take-add}
-use Rattle.ae_io.specs.Told.{Takes, TakesCount, Appends, Stays}
+use Rattle.ae_io.specs.Told.{Takes, TakesCount, Appends}
 
 -- the first n bytes were taken
 pub takes_front : (left rest bytes : List ℕ) (n : ℕ) → take n left ≡ bytes → drop n left ≡ rest → Takes (Some left) (Some rest) bytes
 takes_front left rest bytes n front back =
     (rest, sym (take-append-drop n left) ∙ ap (λ xs. xs ++ drop n left) front ∙ ap (λ xs. bytes ++ xs) back, refl)
-
--- nothing was taken yet
-pub takes_none : (told : Option (List ℕ)) → Takes told told []
-takes_none None = tt
-takes_none (Some left) = (left, refl, refl)
 
 -- what was taken first, and what was taken then
 pub takes_more : (old mid new : Option (List ℕ)) (first more : List ℕ) → Takes old mid first → Takes mid new more → Takes old new (first ++ more)
@@ -20,13 +15,6 @@ takes_more None mid new first more t u = tt
 takes_more (Some left) mid new first more t u =
     let v : Takes (Some t.0) new more = subst (λ m. Takes m new more) t.2 u in
     (v.0, t.1 ∙ ap (λ xs. first ++ xs) v.1 ∙ sym (append_assoc first more v.0), v.2)
-
--- a fault in between took nothing
-pub takes_stays : (old mid new : Option (List ℕ)) (first : List ℕ) → Takes old mid first → Stays mid new → Takes old new first
-takes_stays None mid new first t u = tt
-takes_stays (Some left) mid new first t u =
-    let v : Stays (Some t.0) new = subst (λ m. Stays m new) t.2 u in
-    (t.0, t.1, v)
 
 -- how many were taken
 pub takes_count : (old new : Option (List ℕ)) (bytes : List ℕ) (n : ℕ) → length bytes ≡ n → Takes old new bytes → TakesCount old new n
@@ -36,19 +24,11 @@ takes_count (Some left) new bytes n len t =
     let rest : drop n left ≡ t.0 = ap (drop n) t.1 ∙ drop_at bytes t.0 n len in
     (omega arith, t.2 ∙ ap Some (sym rest))
 
-pub appends_none : (told : Option (List ℕ)) → Appends told told []
-appends_none None = tt
-appends_none (Some written) = ap Some (sym (append-nil written))
-
 pub appends_more : (old mid new : Option (List ℕ)) (first more : List ℕ) → Appends old mid first → Appends mid new more → Appends old new (first ++ more)
 appends_more None mid new first more t u = tt
 appends_more (Some written) mid new first more t u =
     let v : Appends (Some (written ++ first)) new more = subst (λ m. Appends m new more) t u in
     v ∙ ap Some (append_assoc written first more)
-
-pub appends_stays : (old mid new : Option (List ℕ)) (first : List ℕ) → Appends old mid first → Stays mid new → Appends old new first
-appends_stays None mid new first t u = tt
-appends_stays (Some written) mid new first t u = subst (λ m. Stays m new) t u
 
 -- a source over bytes from a place on gave n of them
 pub takes_cursor : (bytes left front : List ℕ) (at n : ℕ) → drop at bytes ≡ left → take n (drop at bytes) ≡ front

@@ -1,6 +1,6 @@
 // All bytes of a source, and all bytes to a sink.
 
-ghost use Rattle.std.specs.Prelude.{◌≡◌, ℕ, ◌+◌, ◌^◌, ◌<◌, ◌≤◌, Some, [], IfSome, IfOk, OnOk, OnErr, IsErrOf, vec_len};
+ghost use Rattle.std.specs.Prelude.{◌≡◌, ◌+◌, ◌^◌, ◌<◌, ◌≤◌, IfOk, OnOk, OnErr, IsErrOf, vec_len};
 ghost use Rattle.ae_io.specs.declared.transfer.LoadFault.TheVariants.{Read, Memory};
 ghost use Rattle.ae_io.specs.Counts.{Rose, Same, raised};
 ghost use Rattle.ae_io.specs.Told.{TakesCount, Appends, AppendsPrefix};

@@ -1,5 +1,5 @@
 -- A program that is typed, and one that has costs, is not refused.
-use Rattle.std.proofs.Common.{ℕ, not, List, Some, None, inl, inr, refl, ap, sym, subst, ◌≡◌, ◌∙◌}
+use Rattle.std.proofs.Common.{ℕ, List, Some, None, inl, inr, refl, ap, sym, subst, ◌≡◌, ◌∙◌}
 use Rattle.ae_seq.specs.ProgramTree.{ProgramTree}
 use Rattle.ae_jobs.specs.declared.status.Status.{Status}
 use Rattle.ae_jobs.specs.declared.status.Status.TheVariants.{Ok, Usage, BadLine, BadType, TooLarge, NoSchedule, BadWords, BadModule, LongRun, ReadFault, WriteFault, TooLong, Memory, BadWave, NotMoves}

@@ -1,7 +1,6 @@
 -- The schedules of a program cost the same.
 use Rattle.std.proofs.Common.{◌≡◌, ℕ, ◌∷◌, [], Bool, true, false, if◌then◌else◌, List, map, take, ap, sym, ◌∙◌}
 use Rattle.std.specs.Option.{option_and_then}
-use Rattle.ae_seqtype.specs.SeqTree.{SeqTree}
 use Rattle.ae_sttype.specs.StTree.{StTree}
 use Rattle.ae_seq.specs.ProgramTree.{FuncTree, ProgramTree}
 use Rattle.ae_seq.specs.Typing.{param_types}
@@ -10,12 +9,10 @@ use Rattle.ae_moves.specs.Origins.{Move}
 use Rattle.ae_rewrite.specs.StProgramTree.{StFuncTree}
 use Rattle.ae_rewrite.specs.Scheduled.{IsSchedule}
 use Rattle.ae_rewrite.specs.Sound.{item_layout, item_layouts}
-use Rattle.ae_delay.specs.declared.own.OwnCosts.{OwnCosts}
 use Rattle.ae_delay.specs.Costs.{NodeTiming, all_costs, first_over, func_costs_by, line_loads, node_timings, too_large}
 use Rattle.ae_trace.specs.Traces.{is_movement, numbered, traced_move}
 use Rattle.ae_fuse.specs.Costing.{Costing, costing_over, fused_costing, fused_costs, result_moves, scheduled_costing}
 use Rattle.ae_lower.specs.Circuits.{last_of}
-use Rattle.ae_alike.specs.Alike.{AreAlike}
 use Rattle.ae_alike.proofs.Same.{schedules_alike}
 use Rattle.ae_compile.specs.Costing.{costs_over, main_costs}
 use Rattle.ae_compile.proofs.Large.{costing_is}

@@ -176,10 +176,6 @@ pub record CutOff (ts : List SeqTree) (row : List ℕ) (k : ℕ) (values : List 
   pub all : (later : List (List ℕ)) → AllFit (drop k ts) later → AllFit ts (values ++ later)
   pub are : (later : List (List ℕ)) → values_of (drop k ts) later ≡ values_in (drop k ts) rest → values_of ts (values ++ later) ≡ values_in ts row
 
-pub cut_none : (ts : List SeqTree) (row : List ℕ) (values : List (List ℕ)) → FitIn ts row → values ≡ [] → CutOff ts row 0 values row
-cut_none ts row values h e =
-    subst (λ vs. CutOff ts row 0 vs row) (sym e) (record { fits = h; all = λ later g. g; are = λ later g. g })
-
 pub record FirstFits (t : SeqTree) (ts : List SeqTree) (rest : List ℕ) : Type 0 where
   pub room : words t ≤ length rest
   pub first : Fit t (take (words t) rest)

@@ -1,11 +1,11 @@
 -- The parameters and results of an accepted program, and the columns of its rows.
-use Rattle.std.proofs.Common.{◌≡◌, ℕ, zero, suc, ◌+◌, ◌*◌, ◌<◌, ◌≤◌, ◌==◌, ◌&&◌, nat_le, Bool, true, false, if◌then◌else◌, List, [], ◌∷◌, ◌++◌, length, map, Option, Some, None, slice_get, get_or, All, refl, arith, sym, ap, ◌∙◌, subst, length-append}
+use Rattle.std.proofs.Common.{◌≡◌, ℕ, zero, suc, ◌+◌, ◌*◌, ◌<◌, ◌≤◌, ◌&&◌, nat_le, Bool, true, false, List, [], ◌∷◌, ◌++◌, length, map, Option, Some, None, slice_get, get_or, All, refl, arith, sym, ap, ◌∙◌, subst, length-append}
 use Rattle.std.specs.Option.{option_map}
 use Rattle.std.proofs.lemmas.List.{length-map, map-append}
 use Rattle.std.proofs.lemmas.Option.{slice_get-map}
 use Rattle.std.proofs.lemmas.List.Elements.{All-nil, All-cons, All-append}
 use Rattle.std.proofs.lemmas.Bool.Decides.{nat_tests}
-use Rattle.ae_word.specs.AtomTree.{AtomTree, WordKind, word, pair, atom_kinds, atom_words, pair_depth, widths_in_range}
+use Rattle.ae_word.specs.AtomTree.{AtomTree, WordKind, word, pair, atom_kinds, pair_depth, widths_in_range}
 use Rattle.ae_seqtype.specs.SeqTree.{SeqTree, atom, seq, depth, in_size, kinds, parts_in_size, repeated, seq_tree, words}
 use Rattle.ae_seqtype.proofs.Sizes.{length-kinds, one-atom_words as atom_some}
 use Rattle.ae_seq.specs.declared.program.Program.{Program}
@@ -14,8 +14,7 @@ use Rattle.ae_seq.specs.declared.program.Param.{Param}
 use Rattle.ae_seq.specs.ProgramTree.{FuncTree, ParamTree, ProgramTree, func_tree, param_tree, program_tree}
 use Rattle.ae_seq.specs.Trees.{param_trees}
 use Rattle.ae_seq.proofs.Types.{slice_get-view}
-use Rattle.ae_seq.specs.Formed.{all_below, all_distinct, formed_func, formed_funcs, formed_nodes, formed_params, func_names, is_name, item_count, line_count, most_results, named_items, within}
-use Rattle.ae_seq.specs.Typing.{Judged, Signature, Verdict, all_in_size, fine, untyped, too_large, judged, judged_func, judged_nodes, param_types, refused, refused_or, signature, size_verdict, type_at, types_of_params}
+use Rattle.ae_seq.specs.Typing.{Judged, Signature, all_in_size, fine, judged, judged_func, judged_nodes, param_types, refused, signature, size_verdict, type_at, types_of_params}
 use Rattle.ae_eval.specs.Stack.{IsTyped, kinds_of, params_for}
 use Rattle.ae_eval.specs.Lines.{input_types, last_func}
 use Rattle.ae_eval.proofs.Items.{and-both, entry-at, few-funcs, func-read}

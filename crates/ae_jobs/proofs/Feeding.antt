@@ -1,32 +1,17 @@
 -- The rows of an input can be fed to the circuit of its program.
-use Rattle.std.proofs.Common.{ℕ, zero, suc, ◌≡◌, ◌+◌, ◌*◌, Bool, List, [], ◌∷◌, ◌++◌, length, length-append, map, take, drop, flat_map, Some, slice_get, arith, refl, ap, sym, ◌∙◌, subst, append_assoc}
-use Rattle.std.specs.List.{filter, All}
-use Rattle.std.proofs.lemmas.List.{append-nil, length-map, map-append, nil_from_length, take-append-drop}
-use Rattle.std.proofs.Math.Nat.{suc-add, zero-add, zero-mul}
+use Rattle.std.proofs.Common.{ℕ, suc, ◌≡◌, ◌+◌, List, [], ◌∷◌, ◌++◌, length, flat_map, Some, slice_get, refl, ap, sym, ◌∙◌, subst}
 use Rattle.std.proofs.lemmas.List.Concat.{flat_map-cons}
-use Rattle.std.proofs.lemmas.List.Elements.{filter-append}
-use Rattle.std.proofs.lemmas.List.Sums.{length-filter}
 use Rattle.ae_word.specs.AtomTree.{WordKind, atom_kinds}
-use Rattle.ae_seqtype.specs.SeqTree.{SeqTree, atom, seq, atoms, atom_of, kinds, repeated}
+use Rattle.ae_seqtype.specs.SeqTree.{SeqTree, atom, atoms, kinds, repeated}
 use Rattle.ae_seqtype.specs.ValueTree.{FitKinds}
-use Rattle.ae_seqtype.proofs.Stands.{FitKinds-append, repeated-one, repeated-push, repeated-add as repeated_add, repeated-mul as repeated_mul}
-use Rattle.ae_sttype.specs.StTree.{StTree, lanes, element_atom}
-use Rattle.ae_netlist.specs.declared.cell.Port.{Port}
-use Rattle.ae_netlist.specs.declared.cell.Port.TheVariants.{In}
-use Rattle.ae_netlist.specs.declared.cell.SizedCell.{SizedCell}
-use Rattle.ae_netlist.specs.Circuit.{Circuit}
-use Rattle.ae_netlist.specs.Counts.{count_of, is_input}
-use Rattle.ae_netlist.specs.Rows.{AreInputs}
+use Rattle.ae_seqtype.proofs.Stands.{FitKinds-append}
+use Rattle.ae_sttype.specs.StTree.{StTree, element_atom}
 use Rattle.ae_seq.specs.ProgramTree.{ProgramTree}
 use Rattle.ae_parse.specs.Rows.{row_words, words_in}
 use Rattle.ae_eval.specs.Stack.{IsTyped, kinds_of}
 use Rattle.ae_eval.specs.Lines.{input_types}
-use Rattle.ae_rewrite.specs.StProgramTree.{StFuncTree}
-use Rattle.ae_ports.specs.Ports.{streams_of, SizedPort, input_cell, input_ports, lane_ports, ports_from, reset_port, word_ports}
 use Rattle.ae_flow.proofs.MeaningLayouts.{AllLaidOut, LaysOut}
-use Rattle.ae_lower.specs.Circuits.{IsCircuitOf}
-use Rattle.ae_play.specs.Fed.{blocks_of, fed_rows}
-use Rattle.ae_play.specs.Fits.{CanBeFed, FitBlocks, HasColumns, lane_kinds, value_kinds}
+use Rattle.ae_play.specs.Fits.{FitBlocks, value_kinds}
 use Rattle.ae_rewrite.specs.Interface.{parameter_types}
 use Rattle.ae_jobs.specs.EvalRows.{AreBlocks}
 use Rattle.ae_jobs.specs.RunTexts.{input_widths}

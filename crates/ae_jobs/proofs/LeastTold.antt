@@ -1,5 +1,5 @@
 -- What `least` answers for a text, from what it answers for its program.
-use Rattle.std.proofs.Common.{◌≡◌, ℕ, List, Result, IfOk, subst, sym}
+use Rattle.std.proofs.Common.{◌≡◌, ℕ, Result, IfOk, subst, sym}
 use Rattle.std.specs.Prelude.{string_bytes}
 use Rattle.std.proofs.lemmas.Result.{IfOk-weaker}
 use Rattle.ae_seq.specs.ProgramTree.{ProgramTree}

@@ -1,21 +1,20 @@
 -- What is so of the timing of the program function of a costed program.
-use Rattle.std.proofs.Common.{◌≡◌, ℕ, ◌+◌, ◌-◌, Bool, true, false, if◌then◌else◌, List, [], ◌∷◌, ◌++◌, length, length-append, map, take, Some, slice_get, refl, ap, sym, ◌∙◌, arith}
+use Rattle.std.proofs.Common.{◌≡◌, ℕ, ◌+◌, ◌-◌, Bool, true, false, if◌then◌else◌, List, [], ◌∷◌, length, map, take, Some, slice_get, refl, ap, sym, ◌∙◌, arith}
 use Rattle.std.proofs.lemmas.List.{length-map}
 use Rattle.std.proofs.lemmas.Option.{same_Some}
 use Rattle.ae_seqtype.specs.SeqTree.{SeqTree, words}
 use Rattle.ae_seqtype.specs.ValueTree.{ValueTree}
 use Rattle.ae_seq.specs.Meaning.{item_values, node_value}
-use Rattle.ae_seq.specs.Typing.{grown, param_types, types_of_params}
+use Rattle.ae_seq.specs.Typing.{param_types, types_of_params}
 use Rattle.ae_seq.specs.ProgramTree.{ParamTree, ProgramTree, FuncTree}
-use Rattle.ae_sttype.specs.StTree.{StTree}
 use Rattle.ae_rewrite.specs.declared.st_program.StFunc.{StFunc}
-use Rattle.ae_rewrite.specs.StProgramTree.{StFuncTree, StNodeTree, st_func_tree, st_func_trees}
-use Rattle.ae_rewrite.specs.Scheduled.{IsSchedule, node_layouts}
+use Rattle.ae_rewrite.specs.StProgramTree.{StFuncTree, st_func_tree, st_func_trees}
+use Rattle.ae_rewrite.specs.Scheduled.{IsSchedule}
 use Rattle.ae_rewrite.specs.Sound.{item_layouts}
 use Rattle.ae_rewrite.specs.Interface.{main_of}
 use Rattle.ae_delay.specs.declared.own.OwnCosts.{OwnCosts}
 use Rattle.ae_delay.specs.Costs.{NodeTiming, all_costs, next_timing, node_timings}
-use Rattle.ae_delay.specs.Timings.{AreTimes, Times, item_arrivals}
+use Rattle.ae_delay.specs.Timings.{AreTimes, Times}
 use Rattle.ae_delay.specs.Weighing.{cost_of}
 use Rattle.ae_trace.specs.Traces.{is_movement, numbered}
 use Rattle.ae_fuse.specs.Costing.{Costing, arrivals_from, costing, fused_costing, scheduled_costing}

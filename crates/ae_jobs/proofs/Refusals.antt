@@ -1,5 +1,5 @@
 -- What is answered where a program is refused.
-use Rattle.std.proofs.Common.{◌≡◌, ℕ, List, Result, IfOk, refl}
+use Rattle.std.proofs.Common.{◌≡◌, ℕ, List, Result, IfOk}
 use Rattle.std.specs.Prelude.{string_bytes}
 use Rattle.std.proofs.lemmas.Result.{IfOk-weaker}
 use Rattle.ae_compile.specs.declared.faults.CompileFault.{CompileFault}

@@ -1,16 +1,15 @@
 -- A well-formed module with rows that are right and a run within the limit is answered by Ok.
-use Rattle.std.proofs.Common.{ℕ, ◌≡◌, ◌<◌, ◌≤◌, List, Some, None, arith, refl, ap, sym, ◌∙◌, subst}
+use Rattle.std.proofs.Common.{ℕ, ◌≡◌, ◌<◌, ◌≤◌, List, None, arith, refl, sym, ◌∙◌, subst}
 use Rattle.std.proofs.lemmas.Option.{none-some}
 use Rattle.ae_vread.specs.ModuleTree.{ModuleTree}
 use Rattle.ae_judge.specs.declared.fault.ElabFault.{ElabFault}
 use Rattle.ae_judge.specs.declared.fault.ElabFault.TheVariants as e
 use Rattle.ae_elab.specs.Faults.{IsFault, IsWellFormed}
-use Rattle.ae_parse.specs.Rows.{bad_row}
 use Rattle.ae_jobs.specs.declared.status.VFaultKind.{VFaultKind}
 use Rattle.ae_jobs.specs.declared.status.Status.{Status}
 use Rattle.ae_jobs.specs.declared.status.Status.TheVariants.{Ok, Usage, BadLine, BadType, TooLarge, NoSchedule, BadWords, BadModule, LongRun, ReadFault, WriteFault, TooLong, Memory, BadWave, NotMoves}
 use Rattle.ae_jobs.specs.RunTexts.{run_limit}
-use Rattle.ae_jobs.specs.SimTexts.{IsModuleOf, IsModuleFault, Unread, Misformed, module_kind, row_widths, sim_size, IsSimOf, IsSimulated, IsSimulable}
+use Rattle.ae_jobs.specs.SimTexts.{IsModuleOf, IsModuleFault, Unread, Misformed, module_kind, sim_size, IsSimOf, IsSimulated, IsSimulable}
 
 -- a well-formed module has no fault of a kind
 pub no_kind : (m : ModuleTree) (fault : ElabFault) → IsWellFormed m → IsFault m fault → module_kind fault ≡ None

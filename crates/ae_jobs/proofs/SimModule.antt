@@ -1,6 +1,6 @@
 -- From the lines of a netlist's run to those of the module with the same runs.
-use Rattle.std.proofs.Common.{ℕ, zero, suc, ◌≡◌, ◌+◌, ◌*◌, ◌<◌, ◌≤◌, Bool, not, ◌&&◌, List, [], ◌∷◌, ◌++◌, length, map, get_or, Option, Some, None, Err, All, arith, refl, ap, sym, ◌∙◌, subst}
-use Rattle.std.specs.List.{filter, count_by}
+use Rattle.std.proofs.Common.{ℕ, zero, suc, ◌≡◌, ◌+◌, ◌*◌, ◌<◌, ◌≤◌, Bool, not, ◌&&◌, List, [], ◌++◌, length, get_or, Option, Some, None, Err, All, arith, refl, ap, sym, ◌∙◌, subst}
+use Rattle.std.specs.List.{count_by}
 use Rattle.std.proofs.lemmas.List.{length-map, get_or-map}
 use Rattle.std.proofs.lemmas.List.Elements.{All-get_or}
 use Rattle.std.proofs.lemmas.List.Sums.{length-filter, count_by-le-length}
@@ -167,10 +167,3 @@ unread fill part table v.Memory status text r is none = absurd (none_some r.1)
   where
     none_some : (text_kind v.Memory ≡ Some r.0) → ⊥
     none_some e = cc
-
--- where the text spells a module, nothing is wrong but that memory ran out
-pub no_text_kind : (m : ModuleTree) (fault : VFault) → GivesModule m (Err fault) → text_kind fault ≡ None
-no_text_kind m (v.BadToken at) g = absurd g
-no_text_kind m v.BadHeader g = absurd g
-no_text_kind m (v.BadItem item) g = absurd g
-no_text_kind m v.Memory g = refl

@@ -1,5 +1,5 @@
 -- Rows of words that are right in each column, and what a netlist's inputs take of them.
-use Rattle.std.proofs.Common.{ℕ, zero, suc, ◌≡◌, ◌+◌, ◌*◌, ◌/◌, ◌^◌, ◌<◌, ◌≤◌, Bool, true, false, nat_eq, if◌then◌else◌, List, [], ◌∷◌, ◌++◌, length, take, drop, map, get_or, Option, Some, None, All, slice_get, length-append, arith, refl, ap, sym, ◌∙◌, subst}
+use Rattle.std.proofs.Common.{ℕ, zero, suc, ◌≡◌, ◌+◌, ◌*◌, ◌/◌, ◌^◌, ◌<◌, ◌≤◌, Bool, true, false, if◌then◌else◌, List, [], ◌∷◌, ◌++◌, length, take, drop, map, get_or, Some, None, All, slice_get, length-append, arith, refl, ap, sym, ◌∙◌, subst}
 use Rattle.std.specs.Str.Parse.{digits_value}
 use Rattle.std.proofs.lemmas.Bool.{ltb-true}
 use Rattle.std.proofs.lemmas.Nat.{div-mul-add}
@@ -10,8 +10,7 @@ use Rattle.std.proofs.lemmas.Option.{same_Some, slice_get-map, slice_get_within,
 use Rattle.std.proofs.Math.Nat.{mul-le-mul_left}
 use Rattle.std.proofs.Math.Seq.{drop-append_seam, take-append_seam}
 use Rattle.std.specs.Prelude.{option_map}
-use Rattle.ae_parse.specs.Cut.{lines, put, fields, said}
-use Rattle.ae_parse.specs.Rows.{rows, rows_of, with_row, is_right, wrong_column, wrong_row, bad_row, row_words, words_in}
+use Rattle.ae_parse.specs.Rows.{rows, is_right, wrong_column, bad_row, row_words, words_in}
 use Rattle.ae_netlist.specs.declared.cell.SizedCell.{SizedCell}
 use Rattle.ae_netlist.specs.declared.cell.Cell.TheVariants.{Const}
 use Rattle.ae_netlist.specs.Circuit.{Circuit, IsFormed}
@@ -24,7 +23,7 @@ use Rattle.ae_jobs.specs.Refusals.{refusal_line}
 use Rattle.ae_jobs.specs.RunTexts.{run_limit}
 use Rattle.ae_jobs.specs.SimPlaying.{cell_widths, input_rows, AreSimRows, IsNetText, net_size, IsNetSim}
 use Rattle.ae_jobs.proofs.EvalSteps.{rights}
-use Rattle.ae_jobs.proofs.RowCounts.{few_put, few_lines, few_with, few_rows_of, few_rows}
+use Rattle.ae_jobs.proofs.RowCounts.{few_rows}
 use Rattle.ae_seq.proofs.Judging.{right as and-second}
 
 -- ---- rows that are right

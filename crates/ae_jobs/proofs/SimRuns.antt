@@ -5,12 +5,11 @@ use Rattle.std.specs.Fmt.{decimal}
 use Rattle.std.proofs.lemmas.List.{append-nil, ext_get_or, get_or-map, length-drop, length-map}
 use Rattle.std.proofs.lemmas.List.FromFn.{get_or-map-range_with_len, length-map-range_with_len}
 use Rattle.ae_parse.specs.Rows.{words_in}
-use Rattle.ae_netlist.specs.declared.cell.Outlet.{Outlet}
 use Rattle.ae_netlist.specs.declared.cell.SizedCell.{SizedCell}
 use Rattle.ae_netlist.specs.Circuit.{Circuit}
 use Rattle.ae_netlist.specs.Counts.{is_input, count_of}
 use Rattle.ae_netlist.specs.Runs.{Clock}
-use Rattle.ae_netlist.specs.Rows.{AreFirsts, AreInputs, HasOneRunWith, IsRunWith, filled}
+use Rattle.ae_netlist.specs.Rows.{AreFirsts, AreInputs, HasOneRunWith, filled}
 use Rattle.ae_sim.specs.Playing.{HasPlayed, Plays, Simulated}
 use Rattle.ae_play.specs.Keeps.{Keeps}
 use Rattle.ae_play.specs.Lines.{shown_words, spaced}

@@ -1,15 +1,12 @@
 -- The wave of a module's run is one that can be written.
-use Rattle.std.proofs.Common.{ℕ, zero, suc, ◌≡◌, ◌+◌, ◌*◌, ◌^◌, ◌<◌, ◌≤◌, ◌==◌, ◌&&◌, ◌⊎◌, inl, inr, Bool, true, false, if◌then◌else◌, List, [], ◌∷◌, ◌++◌, length, length-append, map, flat_map, get_or, Some, slice_get, bytes_eq, codes, arith, refl, ap, sym, ◌∙◌, subst}
+use Rattle.std.proofs.Common.{ℕ, zero, suc, ◌≡◌, ◌+◌, ◌*◌, ◌^◌, ◌<◌, ◌≤◌, ◌==◌, ◌&&◌, inl, inr, Bool, true, false, if◌then◌else◌, List, [], ◌∷◌, ◌++◌, length, length-append, map, flat_map, get_or, Some, slice_get, bytes_eq, codes, arith, refl, ap, sym, ◌∙◌, subst}
 use Rattle.std.specs.Prelude.{All, IsTrue, not}
 use Rattle.std.specs.List.{list_all, range_with_len}
 use Rattle.std.specs.Fmt.{decimal}
 use Rattle.std.proofs.lemmas.List.{length-map, map-append}
 use Rattle.std.proofs.lemmas.List.Concat.{flat_map-cons}
-use Rattle.std.proofs.lemmas.List.Elements.{All-from_get_or}
 use Rattle.std.proofs.lemmas.List.Folds.{list_all-append}
-use Rattle.std.proofs.lemmas.List.FromFn.{get_or-map-range_with_len, length-map-range_with_len}
-use Rattle.std.proofs.lemmas.List.Sums.{sum_by-cons}
-use Rattle.std.proofs.lemmas.Option.{get_or_from_slice_get, slice_get-get_or}
+use Rattle.std.proofs.lemmas.Option.{get_or_from_slice_get}
 use Rattle.ae_eval.proofs.Items.{entry-at}
 use Rattle.ae_netlist.specs.declared.cell.Handshake.{Handshake}
 use Rattle.ae_netlist.specs.declared.cell.Handshake.TheVariants.{SourceValid, SourceReady, SinkValid, SinkReady}
@@ -38,7 +35,7 @@ use Rattle.ae_play.specs.Words.{port_words}
 use Rattle.ae_ports.proofs.Columns.{joined_word}
 use Rattle.ae_correct.proofs.ModuleClock.{clocked, is_clk}
 use Rattle.ae_correct.proofs.ModulePorts.{mapped_at}
-use Rattle.ae_vcd.specs.Waves.{IsFormedWave, WaveTree, is_graphic, is_variable_name, most_variables, size_limit, wave_size, wave_word}
+use Rattle.ae_vcd.specs.Waves.{IsFormedWave, is_graphic, is_variable_name, most_variables, size_limit, wave_size, wave_word}
 use Rattle.ae_vcd.proofs.Written.{decimal_read}
 use Rattle.ae_jobs.specs.WaveTexts.{run_wave, variables_of}
 use Rattle.ae_seq.proofs.Judging.{left as both_true}

@@ -1,6 +1,6 @@
 -- The text of `wave` is what it is said to be.
-use Rattle.std.proofs.Common.{ℕ, ◌≡◌, ◌+◌, ◌*◌, ◌<◌, ◌≤◌, ◌==◌, ◌&&◌, not, Bool, true, false, List, [], ◌∷◌, ◌++◌, length, length-append, map, flat_map, codes, append_assoc, arith, refl, ap, sym, ◌∙◌, subst}
-use Rattle.std.specs.Prelude.{IsTrue, sum_by}
+use Rattle.std.proofs.Common.{ℕ, ◌≡◌, ◌+◌, ◌≤◌, ◌==◌, ◌&&◌, not, true, List, [], ◌∷◌, ◌++◌, length, length-append, flat_map, codes, append_assoc, arith, refl, ap, sym, ◌∙◌, subst}
+use Rattle.std.specs.Prelude.{sum_by}
 use Rattle.std.specs.List.{list_all}
 use Rattle.std.proofs.lemmas.List.{length-map}
 use Rattle.std.proofs.lemmas.List.Folds.{list_all-append}
@@ -12,7 +12,6 @@ use Rattle.ae_seq.specs.ProgramTree.{ProgramTree}
 use Rattle.ae_rewrite.specs.StProgramTree.{StFuncTree}
 use Rattle.ae_rewrite.specs.Interface.{parameter_types}
 use Rattle.ae_netlist.specs.Circuit.{Circuit}
-use Rattle.ae_netlist.specs.declared.cell.Outlet.{Outlet}
 use Rattle.ae_vread.specs.ModuleTree.{ModuleTree}
 use Rattle.ae_vread.specs.Spells.{Spells}
 use Rattle.ae_ops.specs.Blocks.{stream_of}

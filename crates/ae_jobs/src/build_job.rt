@@ -1,6 +1,6 @@
 // The job `build`.
 
-ghost use Rattle.std.specs.Prelude.{◌<◌, ◌≤◌, IfOk, length, string_bytes};
+ghost use Rattle.std.specs.Prelude.{◌<◌, IfOk, length, string_bytes};
 ghost use Rattle.ae_jobs.specs.Schedules.{IsBuilt};
 
 use crate::reply::{Reply, refused_program};

@@ -1,6 +1,6 @@
 // The job `least`.
 
-ghost use Rattle.std.specs.Prelude.{◌<◌, ◌≤◌, IfOk, length, string_bytes};
+ghost use Rattle.std.specs.Prelude.{◌<◌, IfOk, length, string_bytes};
 ghost use Rattle.ae_seq.specs.ProgramTree.{program_tree};
 ghost use Rattle.ae_jobs.specs.LeastAnswers.{IsLeast, IsLeastOf};
 

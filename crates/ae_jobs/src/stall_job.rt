@@ -1,6 +1,6 @@
 // The job `stall`.
 
-ghost use Rattle.std.specs.Prelude.{◌<◌, ◌≤◌, IfOk, length, string_bytes};
+ghost use Rattle.std.specs.Prelude.{◌<◌, IfOk, length, string_bytes};
 ghost use Rattle.ae_jobs.specs.Schedules.{IsStallReply};
 
 use crate::reply::{Reply, refused_program};

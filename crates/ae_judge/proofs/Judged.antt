@@ -1,5 +1,5 @@
 -- The first items and nets of the other kinds of fault.
-use Rattle.std.proofs.Common.{ℕ, ◌≡◌, Bool, true, false, not, ◌&&◌, ◌||◌, List, [], slice_get, Option, Some, None, refl, sym, ap, ◌∙◌, arith, ◌⊎◌, inl, inr}
+use Rattle.std.proofs.Common.{ℕ, ◌≡◌, Bool, true, false, not, ◌&&◌, List, [], slice_get, Option, Some, None, refl, sym, ap, ◌∙◌, arith, ◌⊎◌, inl, inr}
 use Rattle.std.specs.Prelude.{flat_map, option_map, find}
 use Rattle.std.proofs.lemmas.Bool.{or_cases, and_parts}
 use Rattle.ae_vread.specs.ModuleTree.{NetTree, ItemTree, nets, assigns, always, ModuleTree}

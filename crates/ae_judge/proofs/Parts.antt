@@ -3,11 +3,11 @@ use mathlib.Core.Former.{Count}
 use Rattle.std.proofs.Common.{◌≡◌, ◌<◌, List, [], ◌∷◌, refl, sym, ap, ◌∙◌, subst, Vec, Global, map, arith}
 use Rattle.std.specs.List.{AllByRecursion}
 use Rattle.ae_vread.specs.ModuleTree.{ExprTree, name, concat_one, concat_more, StmtTree, block_end, block_more}
-use Rattle.ae_vread.specs.View.{expr_tree, parts_tree, parts_behind, stmt_tree, block_tree}
-use Rattle.ae_vread.specs.declared.module.Expr.{Expr, Concat, Concat', Row_of-Expr, end_of-Expr, more_of-Expr, items-the_row-Expr, items_hidden-the_row-Expr-0}
-use Rattle.ae_vread.specs.declared.module.Stmt.{Stmt, Block, Block', Row_of-Stmt, end_of-Stmt, more_of-Stmt, items-the_row-Stmt, items_hidden-the_row-Stmt-0}
+use Rattle.ae_vread.specs.View.{expr_tree, stmt_tree}
+use Rattle.ae_vread.specs.declared.module.Expr.{Expr, Concat, Concat', Row_of-Expr, end_of-Expr}
+use Rattle.ae_vread.specs.declared.module.Stmt.{Stmt, Block, Block', Row_of-Stmt, end_of-Stmt}
 use Rattle.ae_judge.specs.Shape.{IsLettered, IsLetteredStmt}
-use Rattle.ae_vread.proofs.Rows.{behind, of_row, concat_view, of_stmts, block_view}
+use Rattle.ae_vread.proofs.Rows.{concat_view, block_view}
 
 -- the concatenation of parts; one of none is that of a name of no letters
 abbrev pub concat_behind : ExprTree → List ExprTree → ExprTree

@@ -9,32 +9,10 @@ use Rattle.std.proofs.Math.Nat.{pow-le-pow_right}
 use Rattle.ae_vread.specs.ModuleTree.{ExprTree, StmtTree, NetTree}
 use Rattle.ae_vread.specs.View.{expr_tree, parts_tree, parts_behind}
 use Rattle.ae_vread.specs.declared.module.Expr.{Expr, Name, Const, Place, Part, Index', Unary', Binary', Choose', Concat', Row_of-Expr, end_of-Expr, more_of-Expr}
-use Rattle.ae_vread.specs.declared.module.BinOp.{BinOp}
-use Rattle.ae_vread.specs.declared.module.BinOp.TheVariants.{Mul, Add, Sub, Shl, Shr, Lt, Le, Gt, Ge, Eq, Ne, And, Xor, Or, Both, Either}
 use Rattle.ae_judge.specs.Shape.{IsLettered}
-use Rattle.ae_judge.specs.Widths.{own_width, binary_width}
+use Rattle.ae_judge.specs.Widths.{own_width}
 use Rattle.ae_judge.specs.Faults.{is_outside_of, is_too_wide, is_too_wide_in_stmt}
 use Rattle.ae_judge.proofs.Parts.{concat_behind, concat_of, block_of, lettered_some}
-use Rattle.ae_judge.proofs.Doubled.{or_left as or_first}
-
--- the width of an operator, from widths up to 65
-pub capped_binary : (op : BinOp) (a b : ℕ) → binary_width op (min a 65) (min b 65) ≡ min (binary_width op a b) 65
-capped_binary Mul a b = omega arith
-capped_binary Add a b = omega arith
-capped_binary Sub a b = omega arith
-capped_binary Shl a b = refl
-capped_binary Shr a b = refl
-capped_binary Lt a b = refl
-capped_binary Le a b = refl
-capped_binary Gt a b = refl
-capped_binary Ge a b = refl
-capped_binary Eq a b = refl
-capped_binary Ne a b = refl
-capped_binary And a b = omega arith
-capped_binary Xor a b = omega arith
-capped_binary Or a b = omega arith
-capped_binary Both a b = refl
-capped_binary Either a b = refl
 
 own_behind : (ns : List NetTree) (first : ExprTree) (es : List ExprTree) → own_width ns (concat_behind first es) ≡ sum_by (own_width ns) (first ∷ es)
 own_behind ns first [] = omega arith

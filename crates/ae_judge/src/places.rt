@@ -15,7 +15,7 @@ pub struct Places<'m> {
 }
 
 impl<'m> Model for Places<'m> {
-    ghost use Rattle.std.specs.Prelude.{List, ℕ};
+    ghost use Rattle.std.specs.Prelude.{List};
     ghost use Rattle.ae_judge.specs.Places.{Entry, places_of};
 
     ghost Value = { List Entry };

@@ -4,7 +4,7 @@ ghost use Rattle.std.specs.Prelude.{◌≡◌, ◌+◌, ◌↔◌, IsTrue, map, 
 ghost use Rattle.std.specs.List.{AllByRecursion};
 ghost use Rattle.ae_vread.specs.View.{expr_tree, stmt_tree, drive_tree, item_tree, module_tree};
 ghost use Rattle.ae_judge.specs.Shape.{IsLettered, IsLetteredStmt, IsLetteredDrive, IsLetteredItem};
-ghost use Rattle.ae_judge.specs.Weight.{operator_weight, shift_weight, expr_weight, stmt_weight, drive_weight, item_weight, weight};
+ghost use Rattle.ae_judge.specs.Weight.{operator_weight, shift_weight, expr_weight, stmt_weight, drive_weight, item_weight};
 ghost use Rattle.ae_judge.specs.Faults.{IsLarge};
 
 use ae_vread::{BinOp, Drive, Expr, Stmt, VItem, VModule};

@@ -1,5 +1,5 @@
 -- The rows of all clocks of a value: each element's words in its slot, and the fill elsewhere.
-use Rattle.std.proofs.Common.{ℕ, ◌≡◌, ◌+◌, ◌*◌, ◌<◌, ◌≤◌, List, ◌++◌, length, Some, get_or, arith, refl, ap, ◌∙◌}
+use Rattle.std.proofs.Common.{ℕ, ◌≡◌, ◌+◌, ◌*◌, ◌<◌, List, ◌++◌, length, Some, get_or, arith, refl, ap, ◌∙◌}
 use Rattle.std.proofs.lemmas.Nat.{mul-add-lt}
 use Rattle.ae_sttype.specs.StTree.{StTree, time, lanes, element_words}
 use Rattle.ae_sttype.specs.Slots.{slots}

@@ -175,22 +175,6 @@ hold_columns k t v w ws size same holds e j s at lt =
     let place : s.lane * length (stream_of t).widths + j ≡ s.lane * element_words t + j = ap (λ i. s.lane * i + j) wide in
     sym (same (k + s.clock) (s.lane * length (stream_of t).widths + j) (rw place inside)) ∙ holds e j s at lt
 
-lane_holds : (run : List Clock) (start k m l : ℕ) (xs : List StTree) (bs : List (List NetId)) (vs : List (List ℕ))
-    → ((i : ℕ) (x : StTree) → slice_get xs i ≡ Some x → IsInSize x) → AllSpread m xs bs
-    → AllHold k (streams_of xs) (map (wave_of run start) (map (lane_nets m l) bs)) vs
-    → AllHold k (streams_of xs) (lane_waves l xs (map (wave_of run start) bs)) vs
-lane_holds run start k m l [] [] vs size cut holds = holds
-lane_holds run start k m l [] (b ∷ bs) vs size cut holds = absurd cut
-lane_holds run start k m l (x ∷ xs) [] vs size cut holds = absurd cut
-lane_holds run start k m l (x ∷ xs) (b ∷ bs) [] size cut holds = absurd holds
-lane_holds run start k m l (x ∷ xs) (b ∷ bs) (v ∷ vs) size cut holds = (
-  hold_columns k x (wave_of run start (lane_nets m l b)) (from_column (l * columns_of x) (wave_of run start b)) v (size 0 x refl)
-      (λ c q h. (let e : length b / m ≡ columns_of x = cut.0 in
-      subst (λ (i : ℕ). wave_of run start (take i (drop (l * i) b)) c q ≡ from_column (l * columns_of x) (wave_of run start b) c q) (sym e)
-      (stretch_wave run start (columns_of x) (l * columns_of x) b c q h))) holds.0,
-  lane_holds run start k m l xs bs vs (λ i y f. size (suc i) y f) cut.1 holds.1,
-)
-
 lane_held : (run : List Clock) (start k m l : ℕ) (xs : List StTree) (bs : List (List NetId)) (vs : List (List ℕ))
     → ((i : ℕ) (x : StTree) → slice_get xs i ≡ Some x → IsInSize x) → AllSpread m xs bs
     → AllHold k (streams_of xs) (lane_waves l xs (map (wave_of run start) bs)) vs

@@ -1,23 +1,18 @@
 -- A fold of words of elements makes words of one element.
-use Rattle.std.proofs.Common.{ℕ, ◌≡◌, true, ◌+◌, ◌-◌, ◌*◌, ◌%◌, ◌^◌, ◌<◌, ◌≤◌, List, [], ◌∷◌, ◌++◌, length, get_or, Some, slice_get, arith, sym, ap, ◌∙◌}
+use Rattle.std.proofs.Common.{ℕ, ◌≡◌, true, ◌+◌, ◌-◌, ◌*◌, ◌%◌, ◌^◌, ◌<◌, ◌≤◌, List, [], ◌∷◌, length, get_or, Some, slice_get, arith, sym, ap, ◌∙◌}
 use Rattle.std.proofs.Math.Nat.{mul-le-mul}
-use Rattle.std.proofs.lemmas.List.{append-nil}
 use Rattle.std.proofs.lemmas.List.FromFn.{length-map-range_with_len}
-use Rattle.std.proofs.lemmas.Nat.{mod_below, mod-mul-add}
 use Rattle.ae_word.specs.declared.op.WordOp.{WordOp}
-use Rattle.ae_word.specs.declared.op.WordOp.TheVariants.{Add}
 use Rattle.ae_word.specs.WordTable.{folds}
 use Rattle.ae_sttype.specs.StTree.{StTree, tseq, sseq, st_tree, lanes, element_words}
 use Rattle.ae_sttype.specs.Size.{IsInSize}
 use Rattle.ae_sttype.specs.Slots.{slots}
-use Rattle.ae_sttype.proofs.Bounds.{element_words_pos}
 use Rattle.ae_sttype.proofs.Places.{length-slots}
-use Rattle.ae_fold.specs.declared.words.WordFold.{WordFold}
 use Rattle.ae_fold.specs.Folding.{fold_at, word_fold}
 use Rattle.ae_fold.specs.Shapes.{FoldShape, element_folds, element_size, folded}
 use Rattle.ae_fold.proofs.Associative.{fold_fits}
 use Rattle.ae_fold.proofs.Blocks.{AllFit}
-use Rattle.ae_fold.proofs.Bundles.{column_width, length-folds, words_fit, width_is as fold_width}
+use Rattle.ae_fold.proofs.Bundles.{words_fit, width_is as fold_width}
 use Rattle.ae_fold.proofs.Kinding.{are_folds}
 use Rattle.ae_fold.proofs.Looping.{fold_op}
 use Rattle.ae_reduce.specs.Reduces.{reduce_part}

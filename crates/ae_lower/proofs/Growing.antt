@@ -42,10 +42,6 @@ spends_more p q = record {
 pub spends_up : {a b : Circuit} {m n p q u v : ℕ} → m ≡ n → p ≤ q → Spends a b m p u v → Spends a b n q u v
 spends_up e l h = record { muls = omega (arith, h.muls); memories = omega (arith, h.memories); whole = h.whole }
 
--- all that were left at first are allowed
-pub spends_all : {a b : Circuit} {m p u v : ℕ} (most : ℕ) → p + u ≤ most → Spends a b m p u v → Adds a b m most
-spends_all most l h = record { muls = h.muls; memories = omega (arith, h.memories); whole = h.whole }
-
 pub rings_spend : {a b : Circuit} {m u v : ℕ} → AddsRings a b m u v → Spends a b 0 0 u v
 rings_spend h = record { muls = omega (arith, h.muls); memories = omega (arith, h.memories); whole = h.whole }
 

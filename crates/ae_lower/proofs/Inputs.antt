@@ -1,15 +1,15 @@
 -- Inputs that are added one by one, lane by lane and stream by stream.
-use Rattle.std.proofs.Common.{IsTrue, ℕ, zero, suc, ◌≡◌, ◌+◌, ◌*◌, ◌<◌, ◌≤◌, List, [], ◌∷◌, ◌++◌, length, map, take, get_or, None, Some, false, slice_get, arith, refl, sym, ap, ◌∙◌, subst, length-append, add-one}
+use Rattle.std.proofs.Common.{ℕ, zero, suc, ◌≡◌, ◌+◌, ◌*◌, ◌<◌, ◌≤◌, List, [], ◌∷◌, ◌++◌, length, map, take, get_or, None, Some, false, slice_get, arith, refl, sym, ap, ◌∙◌, subst, length-append, add-one}
 use Rattle.std.specs.List.{range_with_len}
 use Rattle.std.proofs.lemmas.List.{append-nil, append_assoc, length-map, length-take-le, map-append, map_push, take_more}
 use Rattle.std.proofs.lemmas.List.FromFn.{length-range_with_len}
 use Rattle.std.proofs.lemmas.Option.{get_or_from_slice_get, slice_get-get_or, slice_get_within}
 use Rattle.std.specs.Option.{option_map}
-use Rattle.ae_word.specs.AtomTree.{AtomTree, WordKind, atom_in_size, atom_kinds, atom_words}
+use Rattle.ae_word.specs.AtomTree.{AtomTree, WordKind, atom_kinds, atom_words}
 use Rattle.ae_word.proofs.Sizes.{length-atom_kinds}
 use Rattle.ae_sttype.specs.declared.st_type.StType.{StType}
-use Rattle.ae_sttype.specs.StTree.{StTree, atom, tseq, sseq, element_atom, element_words, lanes, st_tree}
-use Rattle.ae_sttype.specs.Size.{HasLengths, IsInSize}
+use Rattle.ae_sttype.specs.StTree.{element_words, lanes, st_tree}
+use Rattle.ae_sttype.specs.Size.{IsInSize}
 use Rattle.ae_moves.proofs.Words.{columns_small}
 use Rattle.ae_rewrite.specs.StProgramTree.{st_trees}
 use Rattle.ae_ports.specs.Ports.{streams_of, SizedPort, input_cell, input_ports, lane_ports, ports_from, stream_ports, word_ports}
@@ -20,7 +20,6 @@ use Rattle.ae_netlist.specs.declared.cell.Port.TheVariants.{In}
 use Rattle.ae_netlist.specs.Circuit.{Circuit}
 use Rattle.ae_ops.specs.Blocks.{Stream, stream_of, stream_widths}
 use Rattle.ae_lower.specs.PortNets.{AddsInputs, bundles_from, nets_from}
-use Rattle.ae_fold.proofs.Kinding.{sized_atom}
 use Rattle.ae_ports.proofs.Columns.{element_columns as widths_long}
 
 -- ---- lists of ports
@@ -94,9 +93,6 @@ bundles_from_push first at k (t ∷ ss) s =
     ∷ (bundles_from (first + length (stream_widths t)) ss ++ nets_from n (length (stream_widths s)) ∷ [])) place
 
 -- ---- inputs that are added
-
-pub inputs_none : (c : Circuit) (nets : List NetId) → AddsInputs c c nets nets []
-inputs_none c nets = record { cells = ap (λ cs. record c { cells = cs }) (sym (append-nil c.cells)); nets = sym (append-nil nets) }
 
 both_cells : (a b c : Circuit) (ps qs : List SizedPort) → b ≡ record a { cells = a.cells ++ map input_cell ps }
     → c ≡ record b { cells = b.cells ++ map input_cell qs } → c ≡ record a { cells = a.cells ++ map input_cell (ps ++ qs) }

@@ -1,14 +1,10 @@
 -- The layouts of a program's parameters and results, and the words of values in them.
-use Rattle.std.proofs.Common.{ℕ, zero, suc, ◌≡◌, ◌+◌, ◌*◌, ◌<◌, List, [], ◌∷◌, ◌++◌, length, map, Option, Some, IsTrue, slice_get, arith, refl, ap, sym, ◌∙◌, subst, append_assoc}
-use Rattle.std.proofs.Math.Nat.{zero-add, suc-add, zero-mul}
-use Rattle.std.proofs.lemmas.Bool.Decides.{nat_tests}
+use Rattle.std.proofs.Common.{ℕ, zero, suc, ◌≡◌, ◌+◌, ◌<◌, List, [], ◌∷◌, ◌++◌, length, map, Option, Some, IsTrue, slice_get, refl, ap, sym, ◌∙◌, subst}
 use Rattle.std.proofs.lemmas.List.{map-append}
 use Rattle.std.proofs.lemmas.Option.{none-some, same_Some}
 use Rattle.ae_word.specs.AtomTree.{WordKind, atom_kinds}
-use Rattle.ae_seqtype.specs.SeqTree.{SeqTree, atom, seq, atoms, atom_of, kinds, repeated, in_size, parts_in_size}
-use Rattle.ae_seqtype.specs.ValueTree.{ValueTree, flat, Fit, FitKinds, Stands}
-use Rattle.ae_seqtype.proofs.Stands.{length-Fit, repeated-one, repeated-add as repeated_add, repeated-mul as repeated_mul}
-use Rattle.ae_seqtype.proofs.Values.{flat-value_of}
+use Rattle.ae_seqtype.specs.SeqTree.{SeqTree, atom, atoms, atom_of, kinds, repeated, parts_in_size}
+use Rattle.ae_seqtype.specs.ValueTree.{ValueTree, flat, Fit, FitKinds}
 use Rattle.ae_sttype.specs.StTree.{StTree, element_atom}
 use Rattle.ae_sttype.specs.Slots.{slots}
 use Rattle.ae_sttype.proofs.Places.{length-slots}

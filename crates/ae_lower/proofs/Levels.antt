@@ -1,5 +1,5 @@
 -- The levels of a tree, which two definitions count alike.
-use Rattle.std.proofs.Common.{ℕ, zero, suc, ◌≡◌, ◌+◌, ◌^◌, ◌<◌, ◌≤◌, true, false, nat_le, nat_lt, inl, inr, arith, refl, sym, ◌∙◌}
+use Rattle.std.proofs.Common.{ℕ, zero, suc, ◌≡◌, ◌+◌, ◌^◌, ◌<◌, ◌≤◌, true, false, nat_lt, inl, inr, arith, refl, sym, ◌∙◌}
 use Rattle.std.proofs.lemmas.Bool.{cases_lt}
 use Rattle.ae_ops.specs.Folds.{log_up as levels_up}
 use Rattle.ae_fold.proofs.LogUp.{log_up_is}

@@ -1,19 +1,12 @@
 -- Items that wait keep their laws, and a node's law follows from those of its arguments.
 use Rattle.std.proofs.Common.{ℕ, suc, ◌≡◌, ◌+◌, ◌-◌, ◌*◌, ◌<◌, List, [], ◌∷◌, length, length-append, map, get_or, Some, slice_get, arith, refl, ap, sym, ◌∙◌, subst}
-use Rattle.std.specs.Option.{option_map}
 use Rattle.std.proofs.lemmas.List.{length-map}
-use Rattle.std.proofs.lemmas.Option.{get_or_from_slice_get, slice_get-get_or, slice_get-map, slice_get_within}
-use Rattle.ae_word.specs.AtomTree.{unsigned_word}
-use Rattle.ae_sttype.specs.declared.st_type.Slot.{Slot}
-use Rattle.ae_sttype.specs.StTree.{StTree, atom, sseq, time, lanes, st_atoms}
-use Rattle.ae_sttype.specs.Size.{IsInSize}
-use Rattle.ae_sttype.specs.Slots.{slots}
-use Rattle.ae_sttype.proofs.Places.{length-slots, slot_at, slot_below, slot_of}
+use Rattle.std.proofs.lemmas.Option.{get_or_from_slice_get, slice_get-get_or, slice_get_within}
+use Rattle.ae_sttype.specs.StTree.{StTree, time}
 use Rattle.ae_netlist.specs.declared.cell.NetId.{NetId}
 use Rattle.ae_netlist.specs.declared.cell.SizedCell.{SizedCell}
 use Rattle.ae_netlist.specs.Circuit.{Circuit, Extends}
 use Rattle.ae_netlist.proofs.Growing.{extends_trans}
-use Rattle.ae_fold.proofs.Kinding.{get_right}
 use Rattle.ae_ops.specs.Waves.{Wave, wave_of}
 use Rattle.ae_ops.specs.Blocks.{Stream, Part, BlockLaw, AllAreWords, AreWords, HoldsWords, KeepsLaw, stream_of}
 use Rattle.ae_rewrite.specs.StProgramTree.{StNodeTree, StFuncTree}

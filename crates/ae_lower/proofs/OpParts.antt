@@ -5,7 +5,7 @@ use Rattle.ae_word.specs.declared.op.WordOp.{WordOp}
 use Rattle.ae_word.specs.declared.op.WordOp.TheVariants.{Add, Sub, Mul, And, Or, Xor, Not, Min, Max, Eq, Lt, Mux, Shl, Shr, Cast, SLt, SMin, SMax, Sar, SCast}
 use Rattle.ae_netlist.specs.Counts.{is_product}
 use Rattle.ae_sttype.specs.StTree.{StTree, time, st_atoms, element_words}
-use Rattle.ae_sttype.specs.Moves.{TripTree, fixed, constant, greatest, lead_from, source_of, trip_number, trips_of}
+use Rattle.ae_sttype.specs.Moves.{TripTree, fixed, greatest, lead_from, source_of, trip_number, trips_of}
 use Rattle.ae_moves.specs.Origins.{move_latency}
 use Rattle.ae_gather.specs.Gathers.{gather_part, origin_word}
 use Rattle.ae_ops.specs.Words.{word_part}
@@ -67,9 +67,6 @@ move_is known budget copies a s how fills = record {
 }
 
 -- ---- constants
-
-no_lead : (clock : ℕ) (w : ℕ) → lead_from clock (constant w) ≡ 0
-no_lead clock w = refl
 
 fixed_source : (ws : List ℕ) (o : ℕ) → (w : ℕ) × (get_or (map fixed ws) o (fixed 0) ≡ fixed w)
 fixed_source [] o = (0, refl)

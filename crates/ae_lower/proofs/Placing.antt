@@ -14,7 +14,6 @@ use Rattle.ae_ports.specs.Ports.{streams_of}
 use Rattle.ae_lower.specs.Parts.{plain_part}
 use Rattle.ae_lower.specs.Growth.{Adds, GrowsBy, IsBuilt}
 use Rattle.ae_lower.specs.Nodes.{IsNodePart, IsOpPart, arguments_of, node_part, plain_costs}
-use Rattle.ae_lower.proofs.Growing.{if_ok_more as if_made}
 
 -- parts that agree on words of their inputs keep the same law
 pub law_as : (clocks a t d : ℕ) (ins : List Stream) (out : Stream) (means : List (List ℕ) → List ℕ) (p : Part) (waves : List Wave) (wave : Wave)

@@ -1,15 +1,15 @@
 -- A body on each lane, one block after the other.
-use Rattle.std.proofs.Common.{ℕ, zero, suc, ◌≡◌, ◌+◌, ◌*◌, ◌<◌, ◌≤◌, List, [], ◌∷◌, length, map, take, drop, get_or, Some, slice_get, arith, refl, ap, sym, ◌∙◌, subst, flat_map, length-append, ◌%◌, ◌/◌}
+use Rattle.std.proofs.Common.{ℕ, zero, suc, ◌≡◌, ◌+◌, ◌*◌, ◌<◌, ◌≤◌, List, [], ◌∷◌, length, map, take, drop, get_or, Some, slice_get, arith, refl, ap, sym, ◌∙◌, subst, flat_map, ◌%◌, ◌/◌}
 use Rattle.std.specs.List.{range_with_len}
 use Rattle.std.proofs.Math.Seq.{take-nil}
 use Rattle.ae_netlist.proofs.Gets.{get_from_take}
 use Rattle.std.proofs.Math.Nat.{mul-le-mul_right, mul_assoc, add-mul}
 use Rattle.std.proofs.lemmas.Nat.{mul-add-lt, div-add-mod', mod-mul-add, mod_below}
-use Rattle.std.proofs.lemmas.List.{length-map, length-take-le}
+use Rattle.std.proofs.lemmas.List.{length-take-le}
 use Rattle.std.proofs.lemmas.Option.{slice_get_within, none-some}
-use Rattle.ae_word.specs.AtomTree.{AtomTree, WordKind, atom_kinds, atom_words, word, pair}
+use Rattle.ae_word.specs.AtomTree.{word}
 use Rattle.ae_sttype.specs.declared.st_type.Slot.{Slot}
-use Rattle.ae_sttype.specs.StTree.{StTree, tseq, sseq, time, lanes, st_atoms, element_atom, element_words}
+use Rattle.ae_sttype.specs.StTree.{StTree, tseq, sseq, time, lanes, st_atoms, element_words}
 use Rattle.ae_sttype.specs.Slots.{slots}
 use Rattle.ae_sttype.specs.Moves.{columns_of}
 use Rattle.ae_sttype.proofs.Bounds.{element_words_pos}
@@ -22,7 +22,6 @@ use Rattle.ae_flow.specs.Fitted.{elements_stream}
 use Rattle.ae_ports.specs.Ports.{streams_of}
 use Rattle.ae_lower.specs.Parts.{plain_part, from_column, lane_waves, mapped_by, AllTake}
 use Rattle.ae_ports.proofs.Columns.{joined_word, element_columns as widths_long}
-use Rattle.ae_word.proofs.Sizes.{length-atom_kinds as kinds_long}
 
 -- ---- words of pieces
 

@@ -1,16 +1,13 @@
 -- Layouts whose elements stand at the same places.
-use Rattle.std.proofs.Common.{ℕ, ◌≡◌, ◌+◌, ◌*◌, ◌/◌, ◌≤◌, ◌<◌, inl, inr, List, [], ◌∷◌, length, map, arith, refl, sym, ap, ◌∙◌}
+use Rattle.std.proofs.Common.{ℕ, ◌≡◌, ◌+◌, ◌*◌, ◌/◌, ◌≤◌, ◌<◌, inl, inr, List, [], ◌∷◌, map, arith, refl, sym, ap, ◌∙◌}
 use Rattle.std.proofs.Math.Nat.{mul-div_cancel, mul-le-mul_right}
-use Rattle.std.proofs.lemmas.List.{length-map}
 use Rattle.ae_word.specs.AtomTree.{AtomTree, WordKind, atom_kinds}
-use Rattle.ae_word.proofs.Sizes.{length-atom_kinds}
 use Rattle.ae_sttype.specs.declared.st_type.Slot.{Slot}
-use Rattle.ae_sttype.specs.StTree.{StTree, tseq, sseq, time, lanes, st_atoms, element_atom, element_words}
+use Rattle.ae_sttype.specs.StTree.{StTree, tseq, sseq, time, lanes, st_atoms, element_atom}
 use Rattle.ae_sttype.specs.Slots.{slots, copies, moved}
 use Rattle.ae_ops.specs.Blocks.{Stream, stream_of}
 use Rattle.ae_delay.specs.OwnCosts.{inner_time}
 use Rattle.ae_flow.specs.Fitted.{IsArranged, IsOneOf, elements_stream}
-use Rattle.ae_gather.proofs.GatherLaw.{length_widths}
 use Rattle.ae_flow.proofs.Streams.{one_copy as copies_one}
 
 moved_none : (c l : ℕ) (ws : List Slot) → c ≡ 0 → l ≡ 0 → map (moved c l) ws ≡ ws

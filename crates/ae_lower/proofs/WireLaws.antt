@@ -8,7 +8,7 @@ use Rattle.ae_sttype.specs.declared.st_type.Slot.{Slot}
 use Rattle.ae_eval.specs.Stack.{paired}
 use Rattle.ae_flow.specs.Flow.{parts, words_at}
 use Rattle.ae_ops.specs.Waves.{Wave}
-use Rattle.ae_ops.specs.Blocks.{Stream, BlockLaw, AllAreWords, AllHold, HoldsWords}
+use Rattle.ae_ops.specs.Blocks.{BlockLaw, AllAreWords, AllHold, HoldsWords}
 use Rattle.ae_lower.specs.Parts.{plain_part}
 use Rattle.ae_lower.proofs.Spreading.{get_take, get_drop, piece_long}
 use Rattle.ae_ports.proofs.Columns.{joined_word}
@@ -90,10 +90,6 @@ pub record ArePaired (lanes k l : ℕ) (first second pairs : Wave) : Type 0 wher
 -- so many lanes, each with so many columns from one on
 pub record IsPartOf (lanes k o l : ℕ) (whole part : Wave) : Type 0 where
   pub each : (c e j : ℕ) → e < lanes → j < l → part c (e * l + j) ≡ whole c (e * k + (o + j))
-
--- elements that stand in the same slots as others
-abbrev pub stands_as : Stream → (widths : List ℕ) → Stream
-stands_as s widths = record { slots = s.slots; lanes = s.lanes; widths = widths }
 
 pairs_hold : (at lanes k l : ℕ) (us vs ps : List ℕ) (slots : List Slot) (n m : ℕ) (first second pairs : Wave) (ws xs : List ℕ) → length us ≡ k → length vs ≡ l
     → length ps ≡ k + l → n ≡ length slots

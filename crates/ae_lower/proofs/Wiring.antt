@@ -2,7 +2,6 @@
 use Rattle.std.proofs.Common.{ℕ, zero, suc, ◌≡◌, ◌+◌, ◌-◌, ◌*◌, ◌<◌, ◌≤◌, inl, inr, List, [], ◌∷◌, ◌++◌, length, length-append, take, drop, slice_get, arith, refl, ap, ◌∙◌}
 use Rattle.std.proofs.Math.Seq.{take-nil}
 use Rattle.std.proofs.Math.Nat.{mul-le-mul_right}
-use Rattle.std.proofs.lemmas.Nat.{mul-add-lt}
 use Rattle.std.proofs.lemmas.List.{length-take-le}
 use Rattle.std.proofs.lemmas.Bool.{cases_lt}
 use Rattle.ae_netlist.specs.declared.cell.NetId.{NetId}
@@ -32,9 +31,6 @@ pub stretch_long : (xs : List NetId) (k m : ℕ) → k + m ≤ length xs → len
 stretch_long xs zero m h = length-take-le m xs (omega arith)
 stretch_long [] (suc k) m h = absurd (omega arith)
 stretch_long (x ∷ xs) (suc k) m h = stretch_long xs k m (omega arith)
-
-pub parts_none : (nets : List NetId) (k o l : ℕ) → AreParts nets 0 k o l []
-parts_none nets k o l = record { long = omega arith; each = λ e j p h. absurd (omega arith) }
 
 pub parts_more : (nets out more : List NetId) (n k o l : ℕ) → more ≡ take (n * k + o + l - (n * k + o)) (drop (n * k + o) nets) → n * k + o + l ≤ length nets
     → AreParts nets n k o l out → AreParts nets (n + 1) k o l (out ++ more)

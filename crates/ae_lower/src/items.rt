@@ -1,6 +1,6 @@
 // The arguments of a node, and the results of an instance, all as late as the latest.
 
-ghost use Rattle.std.specs.Prelude.{◌≡◌, ◌≤◌, ◌<◌, ◌+◌, ◌*◌, ℕ, List, length, map, sum_by, IfOk, OnOk, Some, slice_get, get_or};
+ghost use Rattle.std.specs.Prelude.{◌≡◌, ◌≤◌, ◌<◌, ◌+◌, ◌*◌, ℕ, List, length, sum_by, IfOk, OnOk, Some, slice_get, get_or};
 ghost use Rattle.std.specs.List.{range_with_len};
 ghost use Rattle.ae_sttype.specs.StTree.{st_tree};
 ghost use Rattle.ae_sttype.specs.Size.{IsInSize};
@@ -9,7 +9,6 @@ ghost use Rattle.ae_moves.specs.Rings.{rings};
 ghost use Rattle.ae_rewrite.specs.StProgramTree.{st_func_tree};
 ghost use Rattle.ae_rewrite.specs.Sound.{item_layout, item_layouts};
 ghost use Rattle.ae_netlist.specs.declared.cell.NetId.{NetId as Net};
-ghost use Rattle.ae_netlist.specs.declared.cell.SizedCell.{SizedCell};
 ghost use Rattle.ae_clocked.specs.Signals.{IsFullAt};
 ghost use Rattle.ae_clocked.specs.Phases.{Belongs, KeepsCounters};
 ghost use Rattle.ae_clocked.specs.KeptRings.{RingsBelong};

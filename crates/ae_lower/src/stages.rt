@@ -1,12 +1,11 @@
 // The stages of the operators that call nothing. An error comes only for want of memory.
 
-ghost use Rattle.std.specs.Prelude.{◌≡◌, ◌≤◌, ◌<◌, ◌*◌, ℕ, true, map, IfOk, Some};
+ghost use Rattle.std.specs.Prelude.{◌≡◌, ◌≤◌, ◌<◌, ◌*◌, ℕ, true, map, IfOk};
 ghost use Rattle.ae_word.specs.WordTable.{folds};
 ghost use Rattle.ae_sttype.specs.StTree.{StTree, st_tree, time};
 ghost use Rattle.ae_sttype.specs.Size.{IsInSize};
 ghost use Rattle.ae_rewrite.specs.Sound.{FixedFits, IsSpread};
 ghost use Rattle.ae_delay.specs.Moving.{constant_move, op_move};
-ghost use Rattle.ae_moves.specs.Trees.{origin_tree};
 ghost use Rattle.ae_gather.specs.Gathers.{move_of};
 ghost use Rattle.ae_flow.specs.Flow.{first_width};
 ghost use Rattle.ae_flow.specs.Fitted.{FitsMove, IsArranged, IsOneOf};

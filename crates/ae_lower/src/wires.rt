@@ -1,6 +1,6 @@
 // Nets taken from others, without a cell. An error comes only for want of memory.
 
-ghost use Rattle.std.specs.Prelude.{◌≡◌, ◌≢◌, ◌<◌, ◌≤◌, ◌+◌, ◌*◌, ◌^◌, length, take, drop, IfOk, Err};
+ghost use Rattle.std.specs.Prelude.{◌≡◌, ◌≢◌, ◌<◌, ◌≤◌, ◌+◌, ◌*◌, length, take, drop, IfOk, Err};
 ghost use Rattle.ae_lower.specs.Wiring.{ArePairs, AreParts};
 
 use ae_netlist::{NetFault, NetId};

@@ -9,9 +9,9 @@ use Rattle.ae_netlist.specs.declared.cell.NetId.{NetId}
 use Rattle.ae_netlist.specs.declared.cell.Cell.{Cell}
 use Rattle.ae_netlist.specs.declared.cell.Cell.TheVariants.{Input, Const, Op, Reg, Mem, Peek}
 use Rattle.ae_netlist.specs.declared.cell.SizedCell.{SizedCell}
-use Rattle.ae_netlist.specs.Circuit.{IsNet, IsMemory, IsConstantBelow, IsAddress, IsPlain, width_of, main_operand, OperandsAre, IsOperation, IsPeek, IsAllowed, IsWritten, CellFits, SizedCellFits, IsFormed, IsRegister, HaveNets, Extends}
+use Rattle.ae_netlist.specs.Circuit.{IsNet, IsMemory, IsConstantBelow, IsAddress, IsPlain, width_of, main_operand, OperandsAre, IsOperation, IsPeek, IsWritten, CellFits, SizedCellFits, IsFormed, IsRegister, HaveNets, Extends}
 use Rattle.ae_netlist.specs.declared.cell.Outlet.{Outlet}
-use Rattle.ae_netlist.proofs.Gets.{get_left, get_pushed, get_push_cases, get_from_take, get_take_within, get_in_take, get_set_other, get_set_same}
+use Rattle.ae_netlist.proofs.Gets.{get_left, get_push_cases, get_from_take, get_take_within, get_in_take, get_set_other, get_set_same}
 
 pub extends_refl : (a : List SizedCell) → Extends a a
 extends_refl a = record { keeps = λ n sized h. h }
@@ -133,25 +133,6 @@ formed_push cells sized formed fits = record {
         let e : take n (cells ++ sized ∷ []) ≡ cells = take_at cells (sized ∷ []) n (sym w.0) in
         rw e (rw w.0 (subst (λ (x : SizedCell). SizedCellFits cells (cells ++ sized ∷ []) (length cells) x) w.1 fits))
   ];
-}
-
--- what may be added fits behind the cells
-pub allowed_fits : (cells more : List SizedCell) (w : ℕ) (cell : Cell) → 1 ≤ w → w ≤ 64 → IsAllowed cells w cell
-    → SizedCellFits cells more (length cells) (record { width = w; cell = cell })
-allowed_fits cells more w (Input port) lo hi h = record { low = lo; high = hi; cell = tt }
-allowed_fits cells more w (Const k) lo hi h = record { low = lo; high = hi; cell = h }
-allowed_fits cells more w (Op op args) lo hi h = record { low = lo; high = hi; cell = h }
-allowed_fits cells more w (Reg next) lo hi h = absurd h
-allowed_fits cells more w (Mem depth at next enable) lo hi h = absurd h
-allowed_fits cells more w (Peek mem at) lo hi h = record { low = lo; high = hi; cell = h }
-
--- a new register names itself
-pub state_fits : (cells : List SizedCell) (w : ℕ) → 1 ≤ w → w ≤ 64 → let sized : SizedCell = record { width = w; cell = Reg (record { 0 = length cells }) } in
-    SizedCellFits cells (cells ++ sized ∷ []) (length cells) sized
-state_fits cells w lo hi = record {
-  low = lo;
-  high = hi;
-  cell = record { sized = record { width = w; cell = Reg (record { 0 = length cells }) }; found = get_pushed cells _; plain = tt; wide = refl };
 }
 
 -- a new memory names itself
@@ -318,12 +299,3 @@ formed_written cells m w d at next enable formed mem written =
 -- outputs go on to show nets
 pub nets_later : (a b : List SizedCell) (outlets : List Outlet) → Keeps a b → HaveNets a outlets → HaveNets b outlets
 nets_later a b outlets k h = record { each = λ i outlet g. own_later a b outlet.net.0 k (h.each i outlet g) }
-
-pub nets_push : (cells : List SizedCell) (outlets : List Outlet) (outlet : Outlet) → HaveNets cells outlets
-    → IsNet cells outlet.net.0 (width_of cells outlet.net.0) → HaveNets cells (outlets ++ outlet ∷ [])
-nets_push cells outlets outlet h there = record {
-  each = λ i found g. elim (get_push_cases outlets outlet i found g) [
-    | inl w ↦ h.each i found w.0
-    | inr w ↦ subst (λ (x : Outlet). IsNet cells x.net.0 (width_of cells x.net.0)) w.1 there
-  ];
-}

@@ -1,7 +1,7 @@
 // Netlists, and how they are built.
 
 ghost use Rattle.std.specs.Option.{option_copied, option_map};
-ghost use Rattle.std.specs.Prelude.{◌≡◌, ◌≢◌, ◌<◌, ◌≤◌, ◌+◌, ◌-◌, ◌^◌, ◌↔◌, ◌++◌, ◌∷◌, [], length, Option, Some, None, slice_get, slice_set, IfOk, Ok, Err, IfErr, OnOk, OnErr, IfSome, IsSome, List, ℕ, true, false};
+ghost use Rattle.std.specs.Prelude.{◌≡◌, ◌≢◌, ◌<◌, ◌≤◌, ◌+◌, ◌-◌, ◌^◌, ◌↔◌, ◌++◌, ◌∷◌, [], length, Option, Some, None, slice_get, slice_set, IfOk, Ok, Err, OnOk, OnErr, IfSome, IsSome, true, false};
 ghost use Rattle.ae_netlist.specs.Circuit.{Circuit, IsNet, IsAllowed, IsFormed, IsMemory, IsRegister, IsWritten, HaveNets, SizedCellFits, depth_of, new_memory, new_register, width_of};
 ghost use Rattle.ae_netlist.specs.Counts.{AreNumbered, IsNumbered, cells_of, count_of, is_input};
 

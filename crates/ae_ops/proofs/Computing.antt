@@ -1,7 +1,7 @@
 -- The cells of one operator, and what their nets hold.
 use Rattle.std.proofs.Common.{ℕ, ◌≡◌, ◌<◌, ◌≤◌, ◌^◌, false, List, ◌∷◌, [], length, get_or, Result, Ok, Err, OnOk, OnErr, IfOk, arith, refl, sym, ap, ◌∙◌}
 use Rattle.ae_word.specs.declared.op.WordOp.{WordOp}
-use Rattle.ae_word.specs.declared.op.WordOp.TheVariants.{Eq, Lt, Mul, Mux, Shr, Cast, SLt, Sar, SCast}
+use Rattle.ae_word.specs.declared.op.WordOp.TheVariants.{Mux, Shr, Cast, Sar, SCast}
 use Rattle.ae_word.specs.WordTable.{HasRange, arity_of, is_signed, result_width_of}
 use Rattle.ae_netlist.specs.declared.cell.NetId.{NetId}
 use Rattle.ae_netlist.specs.declared.cell.Cell.{Cell}
@@ -9,7 +9,6 @@ use Rattle.ae_netlist.specs.declared.cell.Cell.TheVariants.{Input, Const, Op, Re
 use Rattle.ae_netlist.specs.declared.cell.SizedCell.{SizedCell}
 use Rattle.ae_netlist.specs.declared.netlist.NetFault.{NetFault}
 use Rattle.ae_netlist.specs.Circuit.{Circuit, IsNet, IsPlain, IsOperation, OperandsAre, main_operand, operand, width_of}
-use Rattle.ae_netlist.specs.Counts.{is_product}
 use Rattle.ae_netlist.specs.Runs.{Clock, CellHolds, InEveryRunFrom, IsRun, word_at}
 use Rattle.ae_netlist.proofs.Growing.{main_is, net_later, net_width}
 use Rattle.ae_netlist.proofs.Shapes.{clock_shaped, cell_holds}
@@ -47,31 +46,11 @@ pub one_main : (op : WordOp) (a : NetId) → main_operand op (a ∷ a ∷ a ∷ 
 one_main Mux a = refl
 one_main _ a = refl
 
-pub no_product : (op : WordOp) → arity_of op ≡ 1 → is_product op ≡ false
-no_product Mul one = absurd (omega arith)
-no_product _ one = refl
-
 -- the widths of a pair of operands
 pub pair_operands : (op : WordOp) (P : ℕ → ℕ → Type 0) (args : List NetId) (w : ℕ) → arity_of op ≡ 2 → OperandsAre op P args w
     → P (get_or args 0 (record { 0 = 0 })).0 w × P (get_or args 1 (record { 0 = 0 })).0 w
 pair_operands Mux P args w two h = absurd (omega arith)
 pair_operands _ P args w two h = (h.0, h.1)
-
-pub result_low : (op : WordOp) (w : ℕ) → HasRange op → 1 ≤ w → 1 ≤ result_width_of op w
-result_low (Cast v) w r l = r.0
-result_low (SCast v) w r l = r.0
-result_low Eq w r l = omega arith
-result_low Lt w r l = omega arith
-result_low SLt w r l = omega arith
-result_low _ w r l = l
-
-pub result_high : (op : WordOp) (w : ℕ) → HasRange op → w ≤ 64 → result_width_of op w ≤ 64
-result_high (Cast v) w r l = r.1
-result_high (SCast v) w r l = r.1
-result_high Eq w r l = omega arith
-result_high Lt w r l = omega arith
-result_high SLt w r l = omega arith
-result_high _ w r l = l
 
 -- by the answer of the one call
 pub most_of : {X : Type 0} (old new : Circuit) (r : Result X NetFault) (most muls : ℕ) → most ≤ 8 → OnOk r (Adds old new most muls)

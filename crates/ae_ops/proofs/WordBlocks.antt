@@ -5,7 +5,7 @@ use Rattle.std.proofs.lemmas.List.{length-map}
 use Rattle.std.proofs.lemmas.Option.{slice_get_within, slice_get-get_or}
 use Rattle.ae_word.specs.declared.op.WordOp.{WordOp}
 use Rattle.ae_word.specs.declared.op.WordOp.TheVariants.{Mux, Not, Shl, Shr, Cast, Sar, SCast}
-use Rattle.ae_word.specs.WordTable.{OperandsFit, latency_of, word_result}
+use Rattle.ae_word.specs.WordTable.{latency_of, word_result}
 use Rattle.ae_sttype.specs.declared.st_type.Slot.{Slot}
 use Rattle.ae_sttype.specs.Holds.{Holds}
 use Rattle.ae_netlist.specs.declared.cell.NetId.{NetId}
@@ -102,17 +102,6 @@ operands_ready cells (Cast v) w ins h = let a = (first_there cells (operand_widt
 operands_ready cells (Sar k) w ins h = let a = (first_there cells (operand_widths (Sar k) w) ins h 0 w refl).1 in (a, a, a)
 operands_ready cells (SCast v) w ins h = let a = (first_there cells (operand_widths (SCast v) w) ins h 0 w refl).1 in (a, a, a)
 operands_ready cells op w ins h = let at = first_there cells (operand_widths op w) ins h in ((at 0 w refl).1, (at 1 w refl).1, (at 0 w refl).1)
-
-values_fit : (op : WordOp) (w : ℕ) (vs : List (List ℕ)) → AllAreWords (map word_stream (operand_widths op w)) vs
-    → OperandsFit op w (word_of vs 0) (word_of vs 1) (word_of vs 2)
-values_fit Mux w vs h = let at = value_at (operand_widths Mux w) vs h in (at 0 1 refl, at 1 w refl, at 2 w refl)
-values_fit Not w vs h = value_at (operand_widths Not w) vs h 0 w refl
-values_fit (Shl k) w vs h = value_at (operand_widths (Shl k) w) vs h 0 w refl
-values_fit (Shr k) w vs h = value_at (operand_widths (Shr k) w) vs h 0 w refl
-values_fit (Cast v) w vs h = value_at (operand_widths (Cast v) w) vs h 0 w refl
-values_fit (Sar k) w vs h = value_at (operand_widths (Sar k) w) vs h 0 w refl
-values_fit (SCast v) w vs h = value_at (operand_widths (SCast v) w) vs h 0 w refl
-values_fit op w vs h = let at = value_at (operand_widths op w) vs h in (at 0 w refl, at 1 w refl)
 
 words_same : (op : WordOp) (w : ℕ) (word : NetId → ℕ) (ins : List (List NetId)) (vs : List (List ℕ))
     → ((i v : ℕ) → slice_get (operand_widths op w) i ≡ Some v → word (first_net ins i) ≡ word_of vs i)

@@ -1,6 +1,6 @@
 // The nets of a value.
 
-ghost use Rattle.std.specs.Prelude.{◌≡◌, ◌<◌, ◌∷◌, [], length, IfOk, Some, slice_get, Err, ◌≢◌};
+ghost use Rattle.std.specs.Prelude.{◌≡◌, ◌<◌, ◌∷◌, [], IfOk, Err, ◌≢◌};
 
 use ae_netlist::{NetFault, NetId};
 use std::alloc::Global;

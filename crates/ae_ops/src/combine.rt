@@ -1,6 +1,6 @@
 // Two words of one clock, combined as in a fold.
 
-ghost use Rattle.std.specs.Prelude.{◌≡◌, ◌≤◌, ◌∷◌, [], length, if◌then◌else◌, IfOk, OnOk, OnErr};
+ghost use Rattle.std.specs.Prelude.{◌∷◌, [], length, if◌then◌else◌, IfOk, OnOk, OnErr};
 ghost use Rattle.ae_netlist.specs.Circuit.{IsNet};
 ghost use Rattle.ae_netlist.specs.Counts.{is_product};
 ghost use Rattle.ae_netlist.specs.Runs.{InEveryRunFrom};

@@ -1,6 +1,6 @@
 // The cells of one operator, on words of one clock.
 
-ghost use Rattle.std.specs.Prelude.{◌≡◌, ◌<◌, ◌≤◌, ◌-◌, ◌^◌, ℕ, ◌∷◌, [], length, false, if◌then◌else◌, IfOk, OnOk, OnErr};
+ghost use Rattle.std.specs.Prelude.{◌≡◌, ◌<◌, ◌-◌, ◌^◌, ◌∷◌, [], length, false, if◌then◌else◌, IfOk, OnOk, OnErr};
 ghost use Rattle.ae_word.specs.WordTable.{HasRange, arity_of, is_signed, result_width_of};
 ghost use Rattle.ae_netlist.specs.Circuit.{IsNet, OperandsAre};
 ghost use Rattle.ae_netlist.specs.Counts.{is_product};

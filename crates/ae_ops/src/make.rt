@@ -1,6 +1,6 @@
 // The result of an operator, and how many clocks after its operands it comes.
 
-ghost use Rattle.std.specs.Prelude.{◌≡◌, ◌≤◌, ◌+◌, ◌∷◌, [], length, if◌then◌else◌, IfOk, OnOk, OnErr};
+ghost use Rattle.std.specs.Prelude.{◌≤◌, if◌then◌else◌, IfOk, OnOk, OnErr};
 ghost use Rattle.ae_word.specs.WordTable.{HasRange, latency_of, result_width_of};
 ghost use Rattle.ae_netlist.specs.Circuit.{IsNet, OperandsAre};
 ghost use Rattle.ae_netlist.specs.Counts.{is_product};

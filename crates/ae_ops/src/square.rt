@@ -1,6 +1,6 @@
 // The square of a word.
 
-ghost use Rattle.std.specs.Prelude.{◌≡◌, ◌≤◌, ◌∷◌, [], IfOk, OnOk, OnErr};
+ghost use Rattle.std.specs.Prelude.{◌∷◌, [], IfOk, OnOk, OnErr};
 ghost use Rattle.ae_netlist.specs.Circuit.{IsNet};
 ghost use Rattle.ae_netlist.specs.Runs.{InEveryRun};
 ghost use Rattle.ae_clocked.specs.Signals.{Adds, IsFullAt};

@@ -1,7 +1,7 @@
 // Sums of words, one of which may be a choice of 0.
 
-ghost use Rattle.std.specs.Prelude.{◌≡◌, ◌≤◌, ◌∷◌, [], true, length, IfOk, IfSome};
-ghost use Rattle.ae_netlist.specs.Circuit.{IsConstantBelow, IsNet, width_of};
+ghost use Rattle.std.specs.Prelude.{◌≡◌, ◌∷◌, [], true, length, IfOk, IfSome};
+ghost use Rattle.ae_netlist.specs.Circuit.{IsConstantBelow, IsNet};
 ghost use Rattle.ae_netlist.specs.Runs.{InEveryRun, InEveryRunFrom};
 ghost use Rattle.ae_clocked.specs.Signals.{Adds, IsFullAt, IsResult};
 ghost use Rattle.ae_ops.specs.Gates.{IsGate, IsGatedSum};

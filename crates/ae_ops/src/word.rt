@@ -1,8 +1,8 @@
 // The stage of one operator on words.
 
-ghost use Rattle.std.specs.Prelude.{◌≡◌, ◌<◌, ◌≤◌, ◌+◌, ◌*◌, ◌∷◌, [], List, ℕ, get_or, length, nat_lt, if◌then◌else◌, IfOk, OnOk};
+ghost use Rattle.std.specs.Prelude.{◌≡◌, ◌<◌, ◌≤◌, [], ℕ, get_or, length};
 ghost use Rattle.ae_word.specs.WordTable.{HasRange, arity_of};
-ghost use Rattle.ae_ops.specs.Words.{first_net, operands_of, picked, word_part};
+ghost use Rattle.ae_ops.specs.Words.{operands_of, picked, word_part};
 
 use crate::bundle::Bundle;
 use crate::make::make;

@@ -5,7 +5,6 @@ pub mod SoundLaws
 pub mod SoundOf
 pub mod Turns
 mod FlatLaws
-mod GraphGets
 mod GraphLeft
 mod GraphWalks
 mod NameLists

@@ -60,10 +60,6 @@ pub all_equations : (m : ModuleTree) → flat_map drives_of m.items ≡ equation
 unfolding equations
 all_equations m = refl
 
-pub none_mapped : {X Y : Type 0} (f : Option X → Option Y) (n : ℕ) → f None ≡ None → map f (replicate n None) ≡ replicate n None
-none_mapped f zero e = refl
-none_mapped f (suc n) e = ap (λ y. y ∷ map f (replicate n None)) e ∙ ap (λ ys. None ∷ ys) (none_mapped f n e)
-
 pub nones_push : (n : ℕ) → replicate {A = Option ExprTree} n None ++ None ∷ [] ≡ replicate (n + 1) None
 nones_push n = push n ∙ ap (λ k. replicate k None) (sym (add-one n))
   where

@@ -1,6 +1,6 @@
 // The order of the wires of a module.
 
-ghost use Rattle.std.specs.Prelude.{◌≡◌, ◌<◌, ◌^◌, ◌++◌, ◌+◌, ℕ, ◌∷◌, [], IfErr, IfOk, IfSome, List, OnOk, None, flat_map, length, map, option_map, replicate};
+ghost use Rattle.std.specs.Prelude.{◌≡◌, ◌<◌, ◌^◌, ◌++◌, ◌+◌, ◌∷◌, [], IfErr, IfOk, IfSome, OnOk, None, length, map, option_map, replicate};
 ghost use Rattle.ae_vread.specs.View.{drive_tree, expr_tree, item_tree, module_tree};
 ghost use Rattle.ae_vread.specs.Reading.{concat_of};
 ghost use Rattle.ae_judge.specs.Names.{drives_of, names_in};

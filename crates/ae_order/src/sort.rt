@@ -1,6 +1,6 @@
 // The order of a graph, by a walk in depth with a stack.
 
-ghost use Rattle.std.specs.Prelude.{◌≡◌, ◌<◌, ◌≤◌, ◌+◌, ℕ, List, length, slice_get, Some, IfOk, IfErr, IfSome, IfNone, slice_set, ◌^◌, OnErr, OnOk, ◌++◌, ◌∷◌, []};
+ghost use Rattle.std.specs.Prelude.{◌≡◌, ◌<◌, ◌≤◌, ◌+◌, ℕ, length, slice_get, Some, IfOk, IfErr, IfSome, IfNone, slice_set, ◌^◌, OnOk, ◌++◌, ◌∷◌, []};
 ghost use Rattle.ae_order.specs.Graph.{Needs, IsGraph, IsOrder};
 ghost use Rattle.ae_order.specs.Walks.{IsWalk, IsTop, Steps, Begins, Fails};
 

@@ -1,5 +1,5 @@
 -- Parameters, nodes and results of a function that is read.
-use Rattle.std.proofs.Common.{◌≡◌, ℕ, suc, ◌+◌, ◌<◌, Bool, true, false, not, ◌&&◌, nat_lt, List, [], ◌∷◌, ◌++◌, length, Some, refl, sym, ap, ◌∙◌, arith, length-append, append_assoc}
+use Rattle.std.proofs.Common.{◌≡◌, ℕ, suc, ◌+◌, ◌<◌, true, false, ◌&&◌, nat_lt, List, [], ◌∷◌, ◌++◌, length, Some, refl, sym, ap, ◌∙◌, arith, length-append, append_assoc}
 use Rattle.std.proofs.lemmas.Bool.{lt-ltb}
 use Rattle.ae_seq.specs.ProgramTree.{OpTree, ParamTree, NodeTree}
 use Rattle.ae_seq.specs.Formed.{all_below, all_distinct, all_names, is_among, is_line, is_name, has_arguments, formed_nodes, formed_params, is_spelled, node_names, param_names, within}

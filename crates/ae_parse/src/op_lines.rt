@@ -5,7 +5,7 @@ ghost use Rattle.ae_seqtype.specs.SeqTree.{seq_tree};
 ghost use Rattle.ae_seq.specs.ProgramTree.{op_tree};
 ghost use Rattle.ae_fields.specs.Cut.{fields};
 ghost use Rattle.ae_fields.specs.View.{items_in, op_rest};
-ghost use Rattle.ae_fields.specs.Words.{cast_op, const_from, const_of, headed_from, headed_of, headed_op, operator_from, partition_from, partition_of, words_after, with_arguments};
+ghost use Rattle.ae_fields.specs.Words.{cast_op, const_from, const_of, headed_from, headed_op, operator_from, partition_from, partition_of, words_after};
 ghost use Rattle.ae_fields.specs.Grammar.{places_after};
 
 use crate::op_words::{bare_op, cast_of, fold_op, func_op, numbered_op, place};

@@ -1,6 +1,6 @@
 // The program of a text.
 
-ghost use Rattle.std.specs.Prelude.{◌≡◌, ◌<◌, IfErr, IfOk, IsTrue, MatchResult, length};
+ghost use Rattle.std.specs.Prelude.{◌≡◌, ◌<◌, IfErr, IfOk, IsTrue, length};
 ghost use Rattle.ae_seq.specs.Formed.{formed};
 ghost use Rattle.ae_seq.specs.ProgramTree.{program_tree};
 ghost use Rattle.ae_fields.specs.Grammar.{IsProgramText, at_end, program, refused};

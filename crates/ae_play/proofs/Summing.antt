@@ -1,5 +1,5 @@
 -- The sums of the words of a run, clock by clock.
-use Rattle.std.proofs.Common.{ℕ, zero, suc, ◌≡◌, ◌+◌, ◌*◌, ◌<◌, ◌≤◌, ◌^◌, Bool, true, false, ◌&&◌, if◌then◌else◌, List, [], ◌∷◌, ◌++◌, length, length-append, flat_map, arith, refl, ap, sym, ◌∙◌, subst}
+use Rattle.std.proofs.Common.{ℕ, zero, suc, ◌≡◌, ◌+◌, ◌≤◌, Bool, true, false, ◌&&◌, if◌then◌else◌, List, [], ◌∷◌, ◌++◌, length, length-append, flat_map, arith, refl, ap, sym, ◌∙◌, subst}
 use Rattle.std.specs.List.{filter, list_all, range_with_len, sum}
 use Rattle.std.proofs.lemmas.Grind.{flat_map-append}
 use Rattle.std.proofs.lemmas.List.{append-nil}
@@ -9,7 +9,7 @@ use Rattle.ae_sttype.specs.StTree.{StTree}
 use Rattle.ae_layout.proofs.PieceLemmas.{joined_next, until_more}
 use Rattle.ae_play.specs.Keeps.{Keeps}
 use Rattle.ae_play.specs.Sums.{AreSums, all_stand, valid_words, words_until}
-use Rattle.ae_play.specs.WordSums.{AreWithClock, HaveRoom}
+use Rattle.ae_play.specs.WordSums.{AreWithClock}
 use Rattle.ae_play.specs.declared.sums.Sums.{Sums}
 
 -- ---- the words of one clock more
@@ -40,14 +40,6 @@ sum-append : (xs ys : List ℕ) → sum (xs ++ ys) ≡ sum xs + sum ys
 sum-append xs ys = sum_by-append (λ (w : ℕ). w) xs ys
 
 -- ---- the sum of words
-
-pub word_sum_more : (w now new all : ℕ) (ws rest : List ℕ) → ws ≡ w ∷ rest → new ≡ now + w → now + sum ws ≡ all → new + sum rest ≡ all
-word_sum_more w now new all ws rest is made was =
-    let parts : sum ws ≡ sum (w ∷ []) + sum rest = ap sum is ∙ sum-append (w ∷ []) rest in
-    let one : sum (w ∷ []) ≡ w = omega arith in
-    omega (arith, parts, one, made, was)
-
--- ---- a clock more
 
 length-taken : (b : Bool) (ws : List ℕ) → length (taken b ws) ≡ (if b then length ws else 0)
 length-taken true ws = refl
@@ -88,17 +80,6 @@ sums_kept slowdown latency outs row shown first (suc c) last k none =
     let next : c + 1 ≡ suc c = omega arith in
     subst (λ m. AreSums slowdown latency outs shown m last) next
     (summed slowdown latency outs shown c k.0 last (sums_kept slowdown latency outs row shown first c k.0 k.1 none) k.2)
-
--- there is room for one clock more
-pub room_more : (c : ℕ) (b : Bool) (words : List ℕ) (sums sums' : Sums) → HaveRoom c sums → AreWithClock b words sums sums' → length words < 2 ^ 32
-    → sum words ≤ length words * 18446744073709551615 → HaveRoom (c + 1) sums'
-room_more c b words sums sums' s w few small = record {
-  valid = omega (arith, s.valid, w.valid, at_most b (length words), few);
-  valid_sum = omega (arith, s.valid_sum, w.valid_sum, at_most b (sum words), few, small);
-  whole_sum = omega (arith, s.whole_sum, w.whole_sum, few, small);
-}
-
--- ---- clocks in which all results stand
 
 pub one_not : (test : StTree → Bool) (s : StTree) (ss rest all : List StTree) → ss ≡ s ∷ rest → test s ≡ false → list_all test ss ≡ list_all test all
     → false ≡ list_all test all

@@ -96,6 +96,3 @@ lines_kept content slowdown latency outs row shown first (suc c) last k =
 pub counted : (slowdown latency blocks : ℕ) → (blocks ≡ 0 → ⊥) → clock_count slowdown latency blocks ≡ latency + blocks * slowdown
 counted slowdown latency zero h = absurd (h refl)
 counted slowdown latency (suc b) h = refl
-
-pub none_counted : (slowdown latency blocks : ℕ) → blocks ≡ 0 → clock_count slowdown latency blocks ≡ 0
-none_counted slowdown latency blocks h = ap (clock_count slowdown latency) h

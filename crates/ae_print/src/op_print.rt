@@ -4,7 +4,7 @@ ghost use Rattle.std.specs.Prelude.{◌≡◌, ◌+◌, ◌<◌, ◌≤◌, ◌^
 ghost use Rattle.std.specs.List.{list_all};
 ghost use Rattle.std.specs.Fmt.{decimal};
 ghost use Rattle.std.specs.String.{string_bytes};
-ghost use Rattle.ae_word.specs.WordTable.{folds, row_of};
+ghost use Rattle.ae_word.specs.WordTable.{row_of};
 ghost use Rattle.ae_seqtype.specs.SeqTree.{seq_tree};
 ghost use Rattle.ae_seqtype.specs.TypeText.{type_text};
 ghost use Rattle.ae_seq.specs.Formed.{all_below, func_names, is_line, node_names, param_names};

@@ -1,5 +1,5 @@
 -- Levels of pairs fold to the same.
-use Rattle.std.proofs.Common.{ℕ, suc, ◌≡◌, ◌+◌, ◌-◌, ◌*◌, ◌/◌, ◌%◌, ◌^◌, ◌<◌, ◌≤◌, min, nat_lt, true, false, inl, inr, List, ◌++◌, ◌∷◌, [], length, get_or, Some, slice_get, arith, refl, sym, ap, ◌∙◌, subst, rules}
+use Rattle.std.proofs.Common.{ℕ, suc, ◌≡◌, ◌+◌, ◌-◌, ◌*◌, ◌/◌, ◌%◌, ◌^◌, ◌<◌, ◌≤◌, min, nat_lt, true, false, inl, inr, List, ◌++◌, ◌∷◌, [], length, get_or, Some, slice_get, arith, sym, ap, ◌∙◌, subst, rules}
 use Rattle.std.proofs.Math.Nat.{pow-succ', add-mul, suc-mul, mul_assoc, mul-le-mul_right}
 use Rattle.std.proofs.lemmas.Bool.{cases_lt}
 use Rattle.std.proofs.lemmas.Nat.{div-mul-add, mod-mul-add, div_below, mod_below, div-add-mod', mul-add-lt}
@@ -164,9 +164,6 @@ fit_row all run t folds nets turns stride lanes p r l h some whole long wide lp 
       let same : fold_at folds (i * stride + p) ≡ fold_at folds p = ap (fold_at folds) at ∙ fold_at_add folds (i * turns) p some in
       held_fits all run t (net_at nets (i * stride + p)) (fold_at folds p).width r l (rw same at (h.each (i * stride + p) below));
 }
-
-pub alike_none : (cells : List SizedCell) (folds : List WordFold) (stride lanes : ℕ) (nets : List NetId) → FoldAlike cells folds stride lanes nets lanes 0 nets
-alike_none cells folds stride lanes nets = λ all e run r p t lp l. (let z : t + 0 ≡ t = omega arith in rw z refl)
 
 pub alike_more : (a b : List SizedCell) (folds : List WordFold) (turns stride lanes : ℕ) (first : List NetId) (count d : ℕ) (nets outs : List NetId)
     → Extends a b → AreFolds folds → stride ≡ turns * length folds → AreFoldNets a folds nets → 1 ≤ count

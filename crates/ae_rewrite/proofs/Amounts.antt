@@ -2,13 +2,8 @@
 use Rattle.std.proofs.Common.{ℕ, ◌*◌, ◌<◌, ◌≤◌, arith, IsTrue}
 use Rattle.std.proofs.Math.Nat.{mul-le-mul_left}
 use Rattle.std.proofs.lemmas.Bool.Decides.{nat_tests}
-use Rattle.ae_word.specs.AtomTree.{AtomTree, word, pair, atom_words}
-use Rattle.ae_seqtype.specs.SeqTree.{SeqTree, atom, seq, atoms, words, in_size}
+use Rattle.ae_seqtype.specs.SeqTree.{SeqTree, seq, atoms, words, in_size}
 use Rattle.ae_seqtype.proofs.Sizes.{atoms-le-words}
-
-atom_words-pos : (a : AtomTree) → 0 < atom_words a
-atom_words-pos (word k) = omega arith
-atom_words-pos (pair a b) = omega (arith, atom_words-pos a)
 
 pub le-times : (n a b : ℕ) → 0 < n → a ≤ b → a ≤ n * b
 le-times n a b p h = grind arith

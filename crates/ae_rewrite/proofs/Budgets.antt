@@ -155,9 +155,6 @@ adds-then p R f a b c x y = record {
 
 -- ---- a node
 
-call-at : (p : ProgramTree) (f u : ℕ) (n : NodeTree) (c : Call) (at : IsNodeOf p f n) → called_by p f u n ≡ Some c → IsCall p f u at.k c
-call-at p f u n c at is = record { of = at.of; node = n; known = at.known; here = at.here; is = is }
-
 pub call-below : (p : ProgramTree) (f u m : ℕ) (n : NodeTree) (c : Call) → IsTrue (formed p) → IsNodeOf p f n → called_by p f u n ≡ Some c → f ≤ m → c.func < m
 call-below p f u m n c h at is le = omega (arith, called-above p f u at.of at.k n c h at.known at.here is)
 

@@ -1,9 +1,8 @@
 -- Lists in which each entry comes from those before it.
-use Rattle.std.proofs.Common.{◌≡◌, ℕ, zero, suc, ◌+◌, ◌<◌, List, [], ◌∷◌, ◌++◌, length, get_or, Some, slice_get, refl, ap, sym, ◌∙◌, arith, length-append}
+use Rattle.std.proofs.Common.{◌≡◌, ℕ, zero, suc, ◌+◌, ◌<◌, List, [], ◌∷◌, ◌++◌, length, Some, slice_get, refl, ap, sym, ◌∙◌, arith, length-append}
 use Rattle.std.proofs.lemmas.Option.{slice_get-get_or, get_or_from_slice_get, slice_get_within, none-some, same_Some}
 use Rattle.std.proofs.lemmas.List.{get_or_append_left, get_or_push}
 use Rattle.ae_seq.specs.Typing.{grown}
-use Rattle.ae_seq.proofs.Items.{length-grown}
 
 -- ---- reads of a longer list
 
@@ -56,10 +55,3 @@ entry step known (y ∷ ys) (suc k) x h =
       is = rw m at n.is;
       same = n.same;
     }
-
--- what is read of the grown list at a place of the entry's own list is read there
-pub entry-back : {A B : Type 0} (step : List B → A → B) (known : List B) (xs : List A) (k : ℕ) (x : A) (e : Entry step known xs k x) (i : ℕ) (y : B) →
-    i < length e.before → slice_get (grown step known xs) i ≡ Some y → slice_get e.before i ≡ Some y
-entry-back step known xs k x e i y h at =
-    let there = slice_get-get_or e.before i y h in
-    there ∙ (sym (e.same i (get_or e.before i y) there) ∙ at)

@@ -1,7 +1,7 @@
 -- Layouts of parameters and of nodes, one after the other.
 use Rattle.std.proofs.Common.{◌≡◌, ℕ, zero, suc, ◌+◌, ◌<◌, ◌≤◌, List, [], ◌∷◌, ◌++◌, length, map, take, drop, get_or, Option, Some, None, Bool, true, false, is_some, ◌&&◌, refl, ap, sym, ◌∙◌, arith, inl, inr, slice_get, IsTrue, option_and_then, cond}
 use Rattle.std.specs.Option.{option_map}
-use Rattle.std.proofs.lemmas.List.{length-map, drop_more, take_more, map-append, take_all, drop_all, length-take-le}
+use Rattle.std.proofs.lemmas.List.{length-map, drop_more, take_more, map-append, length-take-le}
 use Rattle.std.proofs.lemmas.Option.{slice_get-map, none-some, same_Some, slice_get_within, slice_get_read, get_or_from_slice_get}
 use Rattle.std.proofs.lemmas.Bool.{cases_eq}
 use Rattle.ae_seq.specs.declared.program.Func.{Func}
@@ -152,10 +152,6 @@ nodes-fail p keys known f u params ns k made n line l at some =
     sym l.line
     ∙ ap (nodes_line p known f u (params + k)) (drop-at ns k n at)
     ∙ ap (λ o. or_line o (nodes_line p known f u (params + k + 1) (drop (k + 1) ns))) some
-
-pub nodes-end : (p : ProgramTree) (keys : Keys) (known : Known) (f u params : ℕ) (ns : List NodeTree) (k : ℕ) (made : List StNodeTree) →
-    Nodes p keys known f u params ns k made → length ns ≤ k → AreStNodes p keys f u params ns made × (nodes_line p known f u params ns ≡ None)
-nodes-end p keys known f u params ns k made l h = (rw (take_all k ns h) at l.nodes, sym l.line ∙ ap (nodes_line p known f u (params + k)) (drop_all k ns h))
 
 -- node number k of the code
 pub node-there : (ns : List Node) (k : ℕ) (n : Node) → k < length ns → n ≡ get_or ns k n → slice_get (node_trees ns) k ≡ Some (node_tree n)

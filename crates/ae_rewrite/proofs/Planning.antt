@@ -1,7 +1,7 @@
 -- Plans and instances, as they are added.
 use Rattle.std.proofs.Common.{◌≡◌, ℕ, zero, suc, ◌+◌, ◌<◌, ◌≤◌, List, [], ◌∷◌, ◌++◌, length, take, Option, Some, None, refl, ap, sym, ◌∙◌, arith, inl, inr, ◌⊎◌, slice_get}
 use Rattle.std.specs.Option.{option_map}
-use Rattle.std.proofs.lemmas.List.{map-append, take_at, take-append-le, take_all}
+use Rattle.std.proofs.lemmas.List.{map-append, take_at, take-append-le}
 use Rattle.std.proofs.lemmas.Option.{slice_get-map, none-some, same_Some, slice_get_within}
 use Rattle.ae_seq.specs.ProgramTree.{ProgramTree, NodeTree}
 use Rattle.ae_rewrite.specs.declared.calls.Call.{Call}
@@ -252,8 +252,3 @@ own-more p rows own f u plan old new budgets j is h fails made once at = record 
   plans = plans-made p rows own f u plan old new budgets j is h.plans fails made h.are once at;
   are = map-append (λ (r : Row). r.budget) own (record { budget = u; plan = plan } ∷ []) ∙ ap (λ xs. xs ++ u ∷ []) h.are ∙ sym (take-at budgets j u at);
 }
-
-pub own-end : (p : ProgramTree) (rows : List (List Row)) (own : List Row) (instances : List StFuncTree) (budgets : List ℕ) (j : ℕ)
-    → Own p rows own instances budgets j → length budgets ≤ j →
-    Plans p (rows ++ own ∷ []) instances × (row_budgets own ≡ budgets)
-own-end p rows own instances budgets j h le = (h.plans, h.are ∙ take_all j budgets le)

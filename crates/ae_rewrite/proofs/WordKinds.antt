@@ -1,14 +1,14 @@
 -- The kinds of a type's words repeat those of its atom.
-use Rattle.std.proofs.Common.{◌≡◌, ℕ, zero, suc, ◌+◌, ◌-◌, ◌*◌, ◌%◌, ◌<◌, ◌≤◌, ◌^◌, List, [], ◌∷◌, ◌++◌, length, Some, slice_get, refl, arith, sym, ap, ◌∙◌, append_assoc, ⊎_elim, IsTrue, mul_assoc}
+use Rattle.std.proofs.Common.{◌≡◌, ℕ, zero, suc, ◌+◌, ◌-◌, ◌*◌, ◌%◌, ◌<◌, ◌≤◌, ◌^◌, List, [], ◌∷◌, ◌++◌, length, Some, slice_get, refl, arith, sym, ap, ◌∙◌, ⊎_elim, IsTrue, mul_assoc}
 use Rattle.std.proofs.lemmas.Bool.{cases_lt}
 use Rattle.std.proofs.lemmas.Bool.Decides.{nat_tests}
 use Rattle.std.proofs.lemmas.Option.{none-some, same_Some}
-use Rattle.std.proofs.Math.Nat.{mod-eq-sub-mod, mod-eq_of_lt, zero-add, suc-add, zero-mul}
+use Rattle.std.proofs.Math.Nat.{mod-eq-sub-mod, mod-eq_of_lt}
 use Rattle.ae_word.specs.AtomTree.{WordKind, atom_words, atom_kinds}
 use Rattle.ae_word.proofs.Sizes.{length-atom_kinds}
 use Rattle.ae_seqtype.specs.SeqTree.{SeqTree, atom, seq, words, kinds, repeated, atoms, atom_of}
 use Rattle.ae_seqtype.specs.ValueTree.{fit_kinds}
-use Rattle.ae_seqtype.proofs.Stands.{repeated-one, repeated-add, repeated-mul}
+use Rattle.ae_seqtype.proofs.Stands.{repeated-one, repeated-mul}
 
 kinds-repeated : (t : SeqTree) → kinds t ≡ repeated (atoms t) (atom_kinds (atom_of t))
 kinds-repeated (atom a) = sym (repeated-one (atom_kinds a))

@@ -4,7 +4,6 @@ ghost use Rattle.std.specs.Prelude.{◌≡◌, ◌<◌, ◌≤◌, ◌*◌, ◌/
 ghost use Rattle.std.specs.Option.{option_map};
 ghost use Rattle.ae_seqtype.specs.SeqTree.{seq_tree, in_size};
 ghost use Rattle.ae_seq.specs.ProgramTree.{program_tree, node_tree, op_tree, reduce, scan, shift};
-ghost use Rattle.ae_seq.specs.Typing.{type_at};
 ghost use Rattle.ae_seq.specs.Trees.{option_lent};
 ghost use Rattle.ae_sttype.specs.StTree.{st_tree};
 ghost use Rattle.ae_rewrite.specs.StProgramTree.{st_op_tree};

@@ -1,6 +1,6 @@
 // Instances, where those of the functions above are known.
 
-ghost use Rattle.std.specs.Prelude.{◌≡◌, ◌<◌, ◌≤◌, ◌+◌, ◌-◌, ◌++◌, [], ◌∷◌, ℕ, IfOk, OnOk, IfSome, IfNone, IfErr, IsTrue, Some, None, Err, true, false, map, length, slice_get, take};
+ghost use Rattle.std.specs.Prelude.{◌≡◌, ◌<◌, ◌≤◌, ◌+◌, ◌-◌, ◌++◌, [], ◌∷◌, ℕ, IfOk, OnOk, IfSome, IfNone, IfErr, IsTrue, Some, None, Err, false, map, length, slice_get};
 ghost use Rattle.ae_seq.specs.ProgramTree.{program_tree, node_tree, func_tree, op_tree};
 ghost use Rattle.ae_seq.specs.Accepted.{is_item};
 ghost use Rattle.ae_seq.specs.Formed.{formed};

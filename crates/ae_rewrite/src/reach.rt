@@ -1,11 +1,11 @@
 // Which functions are reached, and under which budgets.
 
-ghost use Rattle.std.specs.Prelude.{◌≡◌, ◌<◌, ◌≤◌, ◌+◌, ◌++◌, [], ◌∷◌, ℕ, IfOk, OnOk, IsTrue, Some, length, slice_get};
-ghost use Rattle.ae_seq.specs.ProgramTree.{program_tree, node_tree, func_tree};
+ghost use Rattle.std.specs.Prelude.{◌≡◌, ◌<◌, ◌≤◌, ℕ, IfOk, OnOk, IsTrue, Some, length};
+ghost use Rattle.ae_seq.specs.ProgramTree.{program_tree, node_tree};
 ghost use Rattle.ae_seq.specs.Formed.{formed};
 ghost use Rattle.ae_rewrite.specs.Calls.{called_by};
 ghost use Rattle.ae_rewrite.specs.Scheduled.{IsReached};
-ghost use Rattle.ae_rewrite.specs.Planned.{Adds, AllOnce, AllReached, AreCallsAmong, IsAmong, IsClosedAt, IsCall, number_lists, with_number, IsWith, IfCalled, IsNodeOf, AllEmpty, Reaches};
+ghost use Rattle.ae_rewrite.specs.Planned.{Adds, IsAmong, IsClosedAt, number_lists, with_number, IsWith, IfCalled, IsNodeOf, AllEmpty, Reaches};
 
 use crate::calls::{Call, called_by};
 use crate::plan::{func_of, main_of};

@@ -1,13 +1,13 @@
 // The schedule of a program.
 
-ghost use Rattle.std.specs.Prelude.{◌≡◌, ◌<◌, ◌≤◌, ◌+◌, ◌-◌, ◌*◌, ◌++◌, [], ◌∷◌, ℕ, IfOk, OnOk, IsTrue, Some, None, Err, length, map, slice_get, take};
+ghost use Rattle.std.specs.Prelude.{◌≡◌, ◌<◌, ◌≤◌, ◌+◌, ◌-◌, ◌*◌, ◌++◌, [], ◌∷◌, ℕ, IfOk, OnOk, IsTrue, Some, None, Err, length, slice_get};
 ghost use Rattle.ae_seq.specs.ProgramTree.{program_tree};
 ghost use Rattle.ae_seq.specs.Formed.{formed};
 ghost use Rattle.ae_rewrite.specs.StProgramTree.{st_func_trees, st_func_tree};
 ghost use Rattle.ae_rewrite.specs.Sound.{IsSound};
 ghost use Rattle.ae_rewrite.specs.FailingLine.{failing, failing_line};
-ghost use Rattle.ae_rewrite.specs.Scheduled.{AllFilled, IsSchedule, IsInstance, HasKey};
-ghost use Rattle.ae_rewrite.specs.Planned.{Plans, Reaches, AreCallsKnown, AreSound, IsMade, IsFailing, IsEachOnce, row_lists, number_lists, all_row_budgets, row_budgets, HasPlan};
+ghost use Rattle.ae_rewrite.specs.Scheduled.{AllFilled, IsSchedule};
+ghost use Rattle.ae_rewrite.specs.Planned.{Plans, Reaches, AreCallsKnown, AreSound, IsMade, IsFailing, IsEachOnce, row_lists, number_lists, all_row_budgets, row_budgets};
 
 use crate::plan::{Plan, Row, main_of, plan_func};
 use crate::reach::reached;

@@ -1,6 +1,6 @@
 // A sweep over the lanes of many nets.
 
-ghost use Rattle.std.specs.Prelude.{◌≡◌, ◌+◌, ◌-◌, ◌*◌, ◌%◌, ◌^◌, ◌<◌, ◌≤◌, ℕ, nat_lt, length, IfOk, OnOk, not};
+ghost use Rattle.std.specs.Prelude.{◌≡◌, ◌-◌, ◌*◌, ◌%◌, ◌^◌, ◌<◌, ◌≤◌, ℕ, nat_lt, length, IfOk, OnOk, not};
 ghost use Rattle.ae_word.specs.WordTable.{bit};
 ghost use Rattle.ae_netlist.specs.Circuit.{IsNet};
 ghost use Rattle.ae_clocked.specs.Signals.{Adds, IsFullAt};

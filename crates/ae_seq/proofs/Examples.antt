@@ -1,13 +1,12 @@
 -- What small programs compute, by computation.
-use Rattle.std.proofs.Common.{◌≡◌, ℕ, List, [], ◌∷◌, Option, Some, None, map, refl}
-use Rattle.ae_word.specs.declared.op.WordOp.{WordOp}
-use Rattle.ae_word.specs.declared.op.WordOp.TheVariants.{Add, Sub, Mul, Max, Lt, Mux, Shr, Min, Cast}
-use Rattle.ae_word.specs.AtomTree.{AtomTree, pair as atom_pair, unsigned_word, signed_word}
+use Rattle.std.proofs.Common.{◌≡◌, ℕ, List, [], ◌∷◌, Some, None, map, refl}
+use Rattle.ae_word.specs.declared.op.WordOp.TheVariants.{Add, Mul, Max, Lt, Mux, Shr, Cast}
+use Rattle.ae_word.specs.AtomTree.{pair as atom_pair, unsigned_word, signed_word}
 use Rattle.ae_seqtype.specs.SeqTree.{SeqTree, atom, seq}
-use Rattle.ae_seqtype.specs.ValueTree.{ValueTree, flat, value_of}
-use Rattle.ae_seq.specs.ProgramTree.{OpTree, word, cast_int, pair, fst, snd, const, zip, call, each, each_two, reduce, scan, shift, up, select, partition, unpartition, NodeTree, FuncTree, ProgramTree}
+use Rattle.ae_seqtype.specs.ValueTree.{flat, value_of}
+use Rattle.ae_seq.specs.ProgramTree.{OpTree, word, cast_int, fst, snd, const, zip, each, reduce, scan, shift, up, select, partition, unpartition, NodeTree, FuncTree, ProgramTree}
 use Rattle.ae_seq.specs.Meaning.{mean}
-use Rattle.ae_seq.specs.Typing.{refused_line, type_at, untyped, too_large, Judged}
+use Rattle.ae_seq.specs.Typing.{refused_line, untyped, too_large}
 
 abbrev node : OpTree → List ℕ → NodeTree
 node op args = record { name = []; op = op; args = args; line = 2 }

@@ -1,5 +1,5 @@
 -- The first refused line, one function after another.
-use Rattle.std.proofs.Common.{true, false, Bool, ◌&&◌, ◌≡◌, ℕ, zero, suc, ◌+◌, ◌<◌, List, [], ◌∷◌, ◌++◌, length, get_or, drop, map, Option, Some, None, slice_get, refl, arith, sym, ap, ◌∙◌, IsTrue}
+use Rattle.std.proofs.Common.{true, false, Bool, ◌&&◌, ◌≡◌, ℕ, ◌+◌, ◌<◌, List, [], ◌∷◌, ◌++◌, length, get_or, drop, map, Option, Some, None, slice_get, refl, sym, ap, ◌∙◌, IsTrue}
 use Rattle.std.proofs.lemmas.List.{drop_more, map-append}
 use Rattle.std.proofs.lemmas.Option.{slice_get-map}
 use Rattle.std.specs.Option.{option_map}

@@ -1,13 +1,13 @@
 -- Types of arguments, and what functions need.
-use Rattle.std.proofs.Common.{◌≡◌, ◌≢◌, ◌⊎◌, ℕ, zero, suc, ◌+◌, ◌<◌, ◌≤◌, List, [], ◌∷◌, ◌++◌, length, get_or, drop, map, Bool, true, false, ◌&&◌, Option, Some, None, slice_get, refl, arith, sym, ap, ◌∙◌, append_assoc, IsTrue, option_and_then, ⊎_elim, inl, inr}
-use Rattle.std.proofs.lemmas.List.{map-append, at_drop_more, drop_more}
+use Rattle.std.proofs.Common.{◌≡◌, ◌≢◌, ◌⊎◌, ℕ, zero, suc, ◌+◌, ◌<◌, ◌≤◌, List, [], ◌∷◌, ◌++◌, length, get_or, drop, map, Bool, true, false, ◌&&◌, Option, Some, None, slice_get, refl, arith, sym, ap, ◌∙◌, append_assoc, IsTrue, ⊎_elim, inl, inr}
+use Rattle.std.proofs.lemmas.List.{at_drop_more}
 use Rattle.std.proofs.lemmas.Option.{slice_get-map, slice_get_read}
 use Rattle.std.proofs.lemmas.Bool.Decides.{nat_tests}
 use Rattle.std.specs.Option.{option_map}
 use Rattle.ae_seqtype.specs.SeqTree.{SeqTree, in_size, same_type}
 use Rattle.ae_seq.specs.ProgramTree.{FuncTree}
 use Rattle.ae_seq.specs.Signatures.{result_in, signatures_by}
-use Rattle.ae_seq.specs.Typing.{all_in_size, called, param_types, same_types, types_at, where_ok, ◌>>=◌, Signature}
+use Rattle.ae_seq.specs.Typing.{all_in_size, called, param_types, same_types, types_at, where_ok, ◌>>=◌}
 use Rattle.ae_seq.proofs.Judging.{true-and as both-true}
 
 and-false : (a b : Bool) → false ≡ b → false ≡ (a && b)

@@ -1,5 +1,5 @@
 -- Why a program is refused, and what an accepted one keeps.
-use Rattle.std.specs.Prelude.{◌≡◌, ℕ, ◌+◌, Bool, true, false, nat_lt, IsTrue, List, [], ◌∷◌, Option, Some, None, slice_get}
+use Rattle.std.specs.Prelude.{◌≡◌, ℕ, Bool, false, nat_lt, IsTrue, List, [], ◌∷◌, Option, Some, None, slice_get}
 use Rattle.ae_seqtype.specs.SeqTree.{SeqTree}
 use Rattle.ae_seq.specs.declared.checker.CheckFault.{CheckFault}
 use Rattle.ae_seq.specs.declared.checker.CheckFault.TheVariants.{BadType, Large, Memory}

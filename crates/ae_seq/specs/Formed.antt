@@ -1,10 +1,10 @@
 -- Which programs a text can say.
-use Rattle.std.specs.Prelude.{ℕ, ◌+◌, ◌-◌, ◌*◌, Bool, true, false, not, ◌&&◌, ◌||◌, ◌==◌, nat_le, nat_lt, if◌then◌else◌, List, [], ◌∷◌, ◌++◌, length, map}
+use Rattle.std.specs.Prelude.{ℕ, ◌+◌, Bool, true, false, not, ◌&&◌, ◌||◌, ◌==◌, nat_le, nat_lt, if◌then◌else◌, List, [], ◌∷◌, length, map}
 use Rattle.ae_word.specs.declared.op.WordOp.{WordOp}
 use Rattle.ae_word.specs.declared.op.WordOp.TheVariants.{Add, Sub, Mul, And, Or, Xor, Not, Min, Max, Eq, Lt, Mux, Shl, Shr, Cast, SLt, SMin, SMax, Sar, SCast}
-use Rattle.ae_word.specs.AtomTree.{AtomTree, WordKind, word as atom_word, pair as atom_pair}
+use Rattle.ae_word.specs.AtomTree.{AtomTree, word as atom_word, pair as atom_pair}
 use Rattle.ae_word.specs.WordTable.{arity_of, folds}
-use Rattle.ae_seqtype.specs.SeqTree.{SeqTree, atom, seq, parts_in_size, depth, atom_of}
+use Rattle.ae_seqtype.specs.SeqTree.{SeqTree, parts_in_size, depth, atom_of}
 use Rattle.ae_seq.specs.ProgramTree.{OpTree, word, cast_int, pair, fst, snd, const, zip, call, each, each_two, reduce, scan, shift, up, select, partition, unpartition, ParamTree, NodeTree, FuncTree, ProgramTree}
 
 -- a number is within a range

@@ -1,9 +1,9 @@
 -- What a program computes, on values as nested lists.
-use Rattle.std.specs.Prelude.{◌≡◌, ℕ, zero, suc, ◌+◌, ◌-◌, ◌*◌, Bool, true, false, List, [], ◌∷◌, ◌++◌, length, take, drop, map, get_or}
+use Rattle.std.specs.Prelude.{ℕ, zero, suc, ◌+◌, ◌-◌, true, false, List, [], ◌∷◌, ◌++◌, length, take, drop, map, get_or}
 use Rattle.ae_word.specs.declared.op.WordOp.{WordOp}
 use Rattle.ae_word.specs.declared.op.WordOp.TheVariants.{Cast}
 use Rattle.ae_word.specs.AtomTree.{WordKind}
-use Rattle.ae_word.specs.WordTable.{op_for, row_of, word_result, arity_of}
+use Rattle.ae_word.specs.WordTable.{op_for, row_of, word_result}
 use Rattle.ae_seqtype.specs.SeqTree.{repeated}
 use Rattle.ae_seqtype.specs.ValueTree.{ValueTree, number, both, end, more, listed, elements, zeroed, cut, value_of}
 use Rattle.ae_seq.specs.ProgramTree.{OpTree, word, cast_int, pair, fst, snd, const, zip, call, each, each_two, reduce, scan, shift, up, select, partition, unpartition, NodeTree, FuncTree, ProgramTree}

@@ -1,5 +1,5 @@
 -- What functions need, where the types of their items are known.
-use Rattle.std.specs.Prelude.{◌≡◌, ℕ, List, [], ◌∷◌, ◌++◌, map, Option, Some, None, slice_get}
+use Rattle.std.specs.Prelude.{◌≡◌, ℕ, List, [], ◌∷◌, ◌++◌, map, Option, Some, slice_get}
 use Rattle.ae_seqtype.specs.SeqTree.{SeqTree}
 use Rattle.ae_seq.specs.ProgramTree.{FuncTree}
 use Rattle.ae_seq.specs.Typing.{Signature, param_types, item_types, signature, ◌>>=◌}

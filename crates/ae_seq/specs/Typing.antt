@@ -1,5 +1,5 @@
 -- The types of a program's items, and the first line that is refused.
-use Rattle.std.specs.Prelude.{◌≡◌, ℕ, ◌*◌, ◌^◌, Bool, true, false, ◌==◌, ◌&&◌, nat_le, nat_lt, if◌then◌else◌, List, [], ◌∷◌, ◌++◌, map, Option, Some, None, option_and_then, slice_get, take}
+use Rattle.std.specs.Prelude.{ℕ, ◌*◌, Bool, true, false, ◌==◌, ◌&&◌, nat_le, nat_lt, List, [], ◌∷◌, ◌++◌, map, Option, Some, None, option_and_then, slice_get, take}
 use Rattle.ae_word.specs.declared.op.WordOp.{WordOp}
 use Rattle.ae_word.specs.declared.op.WordOp.TheVariants.{Add, Sub, Mul, And, Or, Xor, Not, Min, Max, Eq, Lt, Mux, Shl, Shr, Cast, SLt, SMin, SMax, Sar, SCast}
 use Rattle.ae_word.specs.AtomTree.{AtomTree, WordKind, word as atom_word, pair as atom_pair, unsigned_word, signed_word, same_kind}
@@ -270,7 +270,3 @@ refused (j ∷ js) = refused_or j j.verdict (refused js)
 -- the refused line of a program, if there is one
 abbrev pub refused_line : ProgramTree → Option Judged
 refused_line p = refused (judged [] p.funcs)
-
--- a program is well typed where no line is refused
-abbrev pub WellTyped : ProgramTree → Type 0
-WellTyped p = refused_line p ≡ None

@@ -1,10 +1,9 @@
 // Which programs a text can say.
 
-ghost use Rattle.std.specs.Prelude.{◌≡◌, ◌&&◌, ◌≤◌, ◌+◌, ◌==◌, length, map, nat_le, if◌then◌else◌};
-ghost use Rattle.std.specs.String.{string_bytes};
+ghost use Rattle.std.specs.Prelude.{◌≡◌, ◌&&◌, ◌≤◌, ◌+◌, ◌==◌, length, nat_le, if◌then◌else◌};
 ghost use Rattle.ae_word.specs.AtomTree.{atom_tree};
 ghost use Rattle.ae_seqtype.specs.SeqTree.{depth, parts_in_size, seq_tree};
-ghost use Rattle.ae_seq.specs.Formed.{all_below, all_distinct, all_name_bytes, all_names, apart, begins_with_letter, formed, formed_func, formed_funcs, formed_nodes, formed_params, func_lines, func_names, has_arguments, is_among, is_letter, is_line, is_name, is_name_byte, is_spelled, is_unsigned, is_word_line, most_results, named_items, node_names, param_names, same_bytes, within};
+ghost use Rattle.ae_seq.specs.Formed.{all_below, all_distinct, all_name_bytes, all_names, apart, begins_with_letter, formed, formed_func, formed_funcs, formed_nodes, formed_params, func_lines, func_names, has_arguments, is_among, is_letter, is_line, is_name, is_spelled, is_unsigned, is_word_line, most_results, named_items, node_names, param_names, same_bytes, within};
 ghost use Rattle.ae_seq.specs.ProgramTree.{func_tree, op_tree, program_tree};
 ghost use Rattle.ae_seq.specs.Trees.{func_trees, node_trees, param_trees};
 

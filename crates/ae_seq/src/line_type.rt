@@ -1,12 +1,12 @@
 // The type of a line's result.
 
-ghost use Rattle.std.specs.Prelude.{◌≡◌, ◌++◌, ◌≤◌, ◌<◌, [], ◌∷◌, IfOk, IsTrue, map, Some, None, Option, length, slice_get};
+ghost use Rattle.std.specs.Prelude.{◌≡◌, ◌<◌, [], IfOk, IsTrue, map, Some, None, Option, slice_get};
 ghost use Rattle.ae_word.specs.AtomTree.{atom_tree};
-ghost use Rattle.ae_seqtype.specs.SeqTree.{atom, in_size, kinds, seq, seq_tree};
+ghost use Rattle.ae_seqtype.specs.SeqTree.{in_size, kinds, seq, seq_tree};
 ghost use Rattle.ae_seqtype.specs.ValueTree.{fit_kinds};
 ghost use Rattle.ae_seq.specs.ProgramTree.{func_tree, op_tree};
 ghost use Rattle.ae_seq.specs.Signatures.{result_in, signatures_by};
-ghost use Rattle.ae_seq.specs.Trees.{func_trees, lent_types, lent, option_lent_types, option_lent, option_type, param_trees, type_trees, types_of};
+ghost use Rattle.ae_seq.specs.Trees.{func_trees, lent_types, option_lent_types, option_lent, option_type, param_trees, type_trees, types_of};
 ghost use Rattle.ae_seq.specs.Typing.{all_in_size, as_word, bit_and_two_words, called, each_two_type, each_type, fst_type, op_type, pair_type, partition_type, reduce_type, same_types, scan_type, select_type, shift_type, snd_type, types_at, types_of_params, unpartition_type, up_type, where_ok, word_type, zip_type, zipped_type, two_words, one_word};
 
 use crate::{Func, Op, Param};

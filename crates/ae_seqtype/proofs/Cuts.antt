@@ -1,9 +1,7 @@
 -- Pieces of a list.
-use Rattle.std.proofs.Common.{◌≡◌, ℕ, zero, suc, ◌+◌, ◌*◌, ◌≤◌, List, [], ◌∷◌, ◌++◌, length, take, drop, map, refl, arith, ap, ◌∙◌, length-drop}
-use Rattle.std.proofs.lemmas.List.{nil_from_length, take-append-le, drop-append-le, take_all, take-take, drop-drop, drop-take}
+use Rattle.std.proofs.Common.{◌≡◌, ℕ, zero, suc, ◌+◌, ◌*◌, ◌≤◌, List, [], ◌∷◌, ◌++◌, length, take, drop, map, refl, arith, ap, length-drop}
+use Rattle.std.proofs.lemmas.List.{nil_from_length, take-append-le, drop-append-le, take-take, drop-drop, drop-take}
 use Rattle.std.proofs.Math.Nat.{suc-add, zero-add, zero-mul}
-use Rattle.std.proofs.Math.Seq.{drop-append_seam, take-append_seam}
-use Rattle.ae_seqtype.specs.SeqTree.{repeated}
 use Rattle.ae_seqtype.specs.ValueTree.{cut}
 
 pub length-cut : {A : Type 0} (n k : ℕ) (ws : List A) → length (cut n k ws) ≡ n
@@ -33,10 +31,6 @@ cut-append (suc n) m k us vs h =
     rw (suc-add n m, take-append-le k us vs here, drop-append-le k us vs here)
     (ap (λ xs. take k us ∷ xs) (cut-append n m k (drop k us) vs (omega (arith, length-drop k us))))
 
--- one more piece
-pub cut-push : {A : Type 0} (n k : ℕ) (us r : List A) → length us ≡ n * k → length r ≡ k → cut (n + 1) k (us ++ r) ≡ cut n k us ++ r ∷ []
-cut-push n k us r h e = cut-append n 1 k us r h ∙ ap (λ x. cut n k us ++ x ∷ []) (take_all k r (omega arith))
-
 -- the first pieces
 pub take-cut : {A : Type 0} (m r k : ℕ) (ws : List A) → take m (cut (m + r) k ws) ≡ cut m k ws
 take-cut zero r k ws = refl
@@ -62,10 +56,3 @@ cut-cut zero m k ws = refl
 cut-cut (suc n) m k ws =
     let sum : suc n * m ≡ m + n * m = omega arith in
     rw (sum, take-cut m (n * m) k ws, drop-cut m (n * m) k ws, cut-take m k ws, cut-cut n m k (drop (m * k) ws)) refl
-
--- the same piece again and again
-pub cut-repeated : {A : Type 0} (n k : ℕ) (ws : List A) → length ws ≡ k → cut n k (repeated n ws) ≡ repeated n (ws ∷ [])
-cut-repeated zero k ws h = refl
-cut-repeated (suc n) k ws h =
-    rw (← h, take-append_seam ws (repeated n ws), drop-append_seam ws (repeated n ws))
-    (ap (λ xs. ws ∷ xs) (cut-repeated n (length ws) ws refl))

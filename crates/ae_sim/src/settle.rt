@@ -1,7 +1,6 @@
 // One clock: the words of all cells, and then the edge.
 
-ghost use Rattle.std.specs.Prelude.{◌≡◌, ◌<◌, ◌≤◌, ℕ, length, get_or, map, slice_get, Some};
-ghost use Rattle.ae_netlist.specs.Circuit.{IsFormed};
+ghost use Rattle.std.specs.Prelude.{◌≡◌, ◌<◌, ℕ, length, get_or, map, slice_get, Some};
 ghost use Rattle.ae_netlist.specs.Rows.{AreFirsts, AreInputs};
 ghost use Rattle.ae_netlist.proofs.Given.{store_in, word_in};
 ghost use Rattle.ae_netlist.proofs.Settled.{IsSettled};

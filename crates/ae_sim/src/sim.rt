@@ -1,6 +1,6 @@
 // A simulator.
 
-ghost use Rattle.std.specs.Prelude.{◌≡◌, ◌<◌, ◌≤◌, ◌-◌, ◌++◌, ◌∷◌, [], ℕ, List, length, get_or, slice_get, Some, IfOk, IfSome};
+ghost use Rattle.std.specs.Prelude.{◌≡◌, ◌<◌, ◌≤◌, ◌-◌, ◌++◌, ◌∷◌, [], ℕ, List, length, slice_get, Some, IfOk};
 ghost use Rattle.ae_netlist.specs.declared.cell.Outlet.{Outlet};
 ghost use Rattle.ae_netlist.specs.Rows.{AreInputs};
 ghost use Rattle.ae_netlist.specs.Runs.{Clock, word_at};

@@ -1,6 +1,6 @@
 -- The items of a written module: one for each cell that is no input, one for each output, and one for each register and
 -- each memory.
-use Rattle.std.proofs.Common.{ℕ, zero, suc, ◌≡◌, ◌+◌, ◌<◌, ◌≤◌, ◌⊎◌, inl, inr, true, List, [], ◌∷◌, ◌++◌, length, Some, None, slice_get, arith, refl, sym, ap, ◌∙◌, subst}
+use Rattle.std.proofs.Common.{ℕ, zero, suc, ◌≡◌, ◌+◌, ◌⊎◌, inl, inr, true, List, [], ◌∷◌, ◌++◌, length, Some, None, slice_get, arith, refl, sym, ap, ◌∙◌, subst}
 use Rattle.std.specs.Prelude.{map}
 use Rattle.std.proofs.lemmas.List.{length-append, length-map}
 use Rattle.ae_netlist.specs.declared.cell.Cell.{Cell}
@@ -33,14 +33,6 @@ abbrev pub total : (Cell → ℕ) → ℕ → List SizedCell → ℕ
 total size zero xs = 0
 total size (suc n) [] = 0
 total size (suc n) (x ∷ xs) = size x.cell + total size n xs
-
-pub total_grow : (size : Cell → ℕ) (xs : List SizedCell) (a n : ℕ) (x : SizedCell) → slice_get xs a ≡ Some x → a < n
-    → total size a xs + size x.cell ≤ total size n xs
-total_grow size [] a n x h l = absurd (let e : None ≡ Some x = h in cc)
-total_grow size (y ∷ xs) a zero x h l = absurd (omega arith)
-total_grow size (y ∷ xs) zero (suc n) x h l =
-    let e : y ≡ x = (let o : Some y ≡ Some x = h in cc) in subst (λ (z : SizedCell). 0 + size z.cell ≤ size y.cell + total size n xs) e (omega arith)
-total_grow size (y ∷ xs) (suc a) (suc n) x h l = let r = total_grow size xs a n x h (omega arith) in omega arith
 
 pub total_others : (n : ℕ) (xs : List SizedCell) → total is_other n xs ≡ others n xs
 total_others zero xs = refl

@@ -42,9 +42,6 @@ filter_none : {X : Type 0} (p : X → Bool) (xs : List X) → ((x : X) → Among
 filter_none p [] h = refl
 filter_none p (x ∷ xs) h = cond-false _ _ _ (h x (inl refl)) ∙ filter_none p xs (λ y a. h y (inr a))
 
-filter_one : {X : Type 0} (p : X → Bool) (x : X) (xs : List X) (b : Bool) → p x ≡ b → (b ≡ true) → filter p (x ∷ xs) ≡ x ∷ filter p xs
-filter_one p x xs b h t = cond-true _ _ _ (h ∙ t)
-
 map_same : {X A : Type 0} (f g : X → A) (xs : List X) → ((k : ℕ) (x : X) → slice_get xs k ≡ Some x → f x ≡ g x) → map f xs ≡ map g xs
 map_same f g [] h = refl
 map_same f g (x ∷ xs) h = (λ i. h 0 x refl i ∷ map_same f g xs (λ k y e. h (suc k) y e) i)

@@ -6,7 +6,7 @@ use Rattle.std.proofs.Math.Nat.{mod-eq_of_lt, mul-mod_left, div-eq_of_lt}
 use Rattle.std.proofs.Math.Pow.{pow_mono}
 use Rattle.std.proofs.lemmas.List.Elements.{All-get_or}
 use Rattle.ae_netlist.proofs.Gets.{get_from_take}
-use Rattle.std.proofs.lemmas.Bool.{cases_Bool, cond-true, cond-false, both_ways}
+use Rattle.std.proofs.lemmas.Bool.{cases_Bool, cond-true, cond-false}
 use Rattle.std.proofs.lemmas.Bool.Decides.{Decides-ltb}
 use Rattle.ae_word.specs.declared.op.WordOp.{WordOp}
 use Rattle.ae_word.specs.declared.op.WordOp.TheVariants.{Add, Sub, Mul, And, Or, Xor, Not, Min, Max, Eq, Lt, Mux, Shl, Shr, Cast, SLt, SMin, SMax, Sar, SCast}

@@ -2,9 +2,9 @@
 use Rattle.std.proofs.Common.{lit≤, ◌≡◌, ℕ, ◌-◌, ◌≤◌, List, [], ◌∷◌, ◌++◌, true, false, Option, Some, None, refl, sym, ◌∙◌, subst, arith, append_assoc, append-nil}
 use Rattle.std.specs.Prelude.{codes, decimal, nat_lt, ◌==◌, if◌then◌else◌}
 use Rattle.ae_vtoken.specs.declared.token.Key.TheVariants.{Module, EndModule, Input, Output, Wire, Reg, Assign, Always, Posedge, If}
-use Rattle.ae_vtoken.specs.declared.token.Sign.TheVariants.{Open, Close, Comma, Semicolon, At, Equals, AtMost}
+use Rattle.ae_vtoken.specs.declared.token.Sign.TheVariants.{Open, Close, Comma, Semicolon, At, Equals}
 use Rattle.ae_vread.specs.Tables.{signs, keys, unused_0, unused_1, unused_2, unused_3, unused_4, unused_5, unused_6, unused_7, unused_8, unused_9}
-use Rattle.ae_vread.specs.Tokens.{TokenTree, Name, Word, Mark, Zero, after_gap, Between, token_of, AreTokens, No_more, Then}
+use Rattle.ae_vread.specs.Tokens.{TokenTree, Name, Word, Mark, after_gap, Between, token_of, AreTokens, No_more, Then}
 use Rattle.ae_vread.specs.ModuleTree.{ExprTree, name}
 use Rattle.ae_vread.specs.ExprForms.{NumberForm, NameForm}
 use Rattle.ae_vread.specs.StmtForms.{SetForm, PutForm, IfForm}

@@ -1,6 +1,6 @@
 -- The form in which a netlist's module is written, and the module that it stands for.
 use Rattle.std.proofs.Common.{◌≡◌, ℕ, suc, ◌+◌, ◌-◌, ◌≤◌, List, [], ◌∷◌, ◌++◌, map, true, false, Some, refl, sym, ap, ◌∙◌, subst, arith, append_assoc, inl, inr}
-use Rattle.std.specs.Prelude.{codes, nat_lt, slice_get, min}
+use Rattle.std.specs.Prelude.{nat_lt, slice_get, min}
 use Rattle.std.specs.List.{flat_map}
 use Rattle.std.proofs.lemmas.Bool.{cases_Bool, cond-true, cond-false, lt-ltb, both_ways, cases_eq}
 use Rattle.ae_netlist.specs.declared.cell.Cell.{Cell}
@@ -12,7 +12,7 @@ use Rattle.ae_vread.specs.ModuleTree.{constant, index}
 use Rattle.ae_vread.specs.declared.module.NetKind.{NetKind}
 use Rattle.ae_vread.specs.Forms.{PortForm, InputHead, OutputHead, ItemForm, ModuleForm, size_of, net_of}
 use Rattle.ae_verilog.specs.NetlistModule as m
-use Rattle.ae_verilog.specs.NetlistModule.{port_name, number_name, net_name, net_value, op_expression, each_numbered, input_nets, output_net, declared_nets, inputs_of, declared_from, declaration, assignment, edge, netlist_module}
+use Rattle.ae_verilog.specs.NetlistModule.{port_name, number_name, net_name, net_value, op_expression, each_numbered}
 use Rattle.ae_spelled.proofs.Pieces.{number_form}
 use Rattle.ae_spelled.proofs.Writable.{number_back}
 use Rattle.ae_spelled.proofs.Lines.{range_form, value_item, register_item, memory_item, assign_item, register_edge_item, memory_edge_item}

@@ -1,6 +1,6 @@
 -- The form of a netlist's module is formed, and stands for that module.
 use Rattle.std.proofs.Common.{◌≡◌, ℕ, suc, ◌+◌, ◌-◌, ◌<◌, ◌≤◌, List, [], ◌∷◌, ◌++◌, length, map, take, true, Some, refl, sym, ap, ◌∙◌, subst, arith, append_assoc, append-nil, inl, inr, lit≤}
-use Rattle.std.specs.Prelude.{codes, slice_get}
+use Rattle.std.specs.Prelude.{slice_get}
 use Rattle.std.specs.List.{flat_map, AllByRecursion}
 use Rattle.std.proofs.lemmas.Option.{slice_get_within}
 use Rattle.ae_netlist.proofs.Gets.{get_take_within}

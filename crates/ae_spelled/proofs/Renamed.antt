@@ -1,12 +1,12 @@
 -- What a module is called has no part in its runs, nor in whether it is well formed.
-use Rattle.std.proofs.Common.{ℕ, ◌≡◌, ◌<◌, List, length}
+use Rattle.std.proofs.Common.{ℕ, List}
 use Rattle.ae_netlist.specs.Circuit.{Circuit}
 use Rattle.ae_netlist.specs.Runs as netlist
 use Rattle.ae_vread.specs.ModuleTree.{ModuleTree}
 use Rattle.ae_elab.specs.Names.{is_clock, equations}
-use Rattle.ae_elab.specs.Faults.{Feeds, Reaches, at_once, through, IsWellFormed}
+use Rattle.ae_elab.specs.Faults.{Reaches, at_once, through, IsWellFormed}
 use Rattle.ae_elab.specs.Values.{ModuleClock}
-use Rattle.ae_elab.specs.Runs.{next_clock, IsModuleShaped, IsSettled, IsStep, IsModuleRun}
+use Rattle.ae_elab.specs.Runs.{next_clock, IsStep, IsModuleRun}
 use Rattle.ae_elab.specs.SameRuns.{BeginAlike, HaveEqualOutputs, HasSameRuns}
 use Rattle.ae_spelled.specs.Streams.{renamed}
 

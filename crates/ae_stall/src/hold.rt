@@ -1,12 +1,11 @@
 // Registers and memories that take what a gate makes.
 
-ghost use Rattle.std.specs.Prelude.{◌≡◌, ℕ, ◌<◌, ◌≤◌, ◌+◌, ◌++◌, ◌∷◌, ◌≢◌, [], OnOk, IfOk, List, Some, length, slice_get, slice_set};
+ghost use Rattle.std.specs.Prelude.{◌≡◌, ℕ, ◌<◌, ◌≤◌, ◌+◌, ◌≢◌, OnOk, List, Some, length, slice_get};
 ghost use Rattle.ae_netlist.specs.declared.cell.SizedCell.{SizedCell};
-ghost use Rattle.ae_netlist.specs.Circuit.{IsAllowed};
 ghost use Rattle.ae_netlist.specs.Counts.{AreWhole};
 ghost use Rattle.ae_stall.specs.Copies.{HasLogicAround, IsPartlyHeld, MayBeHeld, reset_cell};
 ghost use Rattle.ae_stall.specs.Held.{IsHeld};
-ghost use Rattle.ae_stall.specs.Images.{memory_gate, net, placed, placed_net, register_gate};
+ghost use Rattle.ae_stall.specs.Images.{placed};
 
 use crate::copy::push;
 use crate::look::{cell_at, placed};

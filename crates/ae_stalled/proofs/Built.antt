@@ -1,5 +1,5 @@
 -- The module of a stalled circuit keeps the blocks in its enabled clocks.
-use Rattle.std.proofs.Common.{ℕ, suc, ◌≡◌, ◌+◌, ◌*◌, ◌<◌, ◌≤◌, List, [], ◌∷◌, ◌++◌, length, map, take, get_or, Some, slice_get, true, false, arith, refl, ap, sym, ◌∙◌, subst}
+use Rattle.std.proofs.Common.{ℕ, suc, ◌≡◌, ◌+◌, ◌*◌, ◌<◌, ◌≤◌, List, [], ◌∷◌, ◌++◌, length, map, take, get_or, Some, slice_get, true, false, arith, refl, ap, sym, ◌∙◌}
 use Rattle.std.specs.Prelude.{codes, ◌==◌}
 use Rattle.std.specs.List.{filter}
 use Rattle.std.proofs.lemmas.List.{length-map, map-append, get_or-map}
@@ -35,7 +35,7 @@ use Rattle.ae_ports.specs.CircuitFor.{IsCircuitFor}
 use Rattle.ae_ports.specs.Ports.{SizedPort, columns_in, outlet_port, reset_port, streams_of}
 use Rattle.ae_ports.specs.Ports as net_side
 use Rattle.ae_ports.proofs.Columns.{map_map}
-use Rattle.ae_correct.specs.Correct.{ModulePort, BundlesHold, KeepsBlocks, param_ports, name_of, result_ports, port_of, bundles_from, ports_of, wave}
+use Rattle.ae_correct.specs.Correct.{ModulePort, BundlesHold, KeepsBlocks, param_ports, name_of, result_ports, port_of, ports_of, wave}
 use Rattle.ae_correct.proofs.Clocks.{input_alike, output_alike}
 use Rattle.ae_correct.proofs.Keeps.{circuit_ports, holds_alike, ins_of, outs_of, keeps}
 use Rattle.ae_correct.specs.Laws.{IsLaidOut}

@@ -1,5 +1,5 @@
 -- A stalled circuit can be written as a module.
-use Rattle.std.proofs.Common.{ℕ, zero, suc, ◌≡◌, ◌+◌, ◌*◌, ◌<◌, ◌≤◌, ◌^◌, List, [], ◌∷◌, length, map, get_or, Some, slice_get, arith, refl, ap, sym, ◌∙◌, subst}
+use Rattle.std.proofs.Common.{ℕ, zero, suc, ◌≡◌, ◌<◌, ◌≤◌, ◌^◌, List, ◌∷◌, length, map, get_or, Some, slice_get, arith, refl, ap, sym, ◌∙◌, subst}
 use Rattle.std.proofs.lemmas.List.{length-map}
 use Rattle.std.proofs.lemmas.Option.{same_Some, slice_get_within, slice_get-get_or}
 use Rattle.ae_netlist.specs.declared.cell.Port.{Port}
@@ -21,7 +21,7 @@ use Rattle.ae_delay.specs.declared.own.OwnCosts.{OwnCosts}
 use Rattle.ae_ports.specs.CircuitFor.{IsCircuitFor}
 use Rattle.ae_ports.specs.Ports.{SizedPort, columns_in, input_ports, reset_port, streams_of}
 use Rattle.ae_correct.specs.Laws.{IsLaidOut}
-use Rattle.ae_correct.proofs.Keeps.{circuit_ports, ins_of, outs_of}
+use Rattle.ae_correct.proofs.Keeps.{circuit_ports, outs_of}
 use Rattle.ae_correct.proofs.Laid.{few_ins, ins_filling}
 use Rattle.ae_correct.proofs.ModulePorts.{mapped_at}
 use Rattle.ae_correct.proofs.Nets.{HavePorts}

@@ -1,5 +1,5 @@
 -- What is proved of the module of the stalled circuit for a program.
-use Rattle.std.specs.Prelude.{◌≡◌, ℕ, ◌≤◌, List, length}
+use Rattle.std.specs.Prelude.{ℕ, ◌≤◌, List, length}
 use Rattle.ae_sttype.specs.StTree.{StTree}
 use Rattle.ae_netlist.specs.Circuit.{Circuit}
 use Rattle.ae_seq.specs.ProgramTree.{ProgramTree}

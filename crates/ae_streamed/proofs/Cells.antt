@@ -45,12 +45,6 @@ next_first f (y ∷ xs) (suc k) x h =
     let e : suc k + 1 ≡ suc (k + 1) = omega arith in
     ap (λ n. map f (take n (y ∷ xs))) e ∙ ap (λ vs. f y ∷ vs) (next_first f xs k x h)
 
-pub append_assoc_one : {X : Type 0} (xs ys : List X) (x : X) → (xs ++ ys) ++ x ∷ [] ≡ xs ++ (ys ++ x ∷ [])
-append_assoc_one [] ys x = refl
-append_assoc_one (y ∷ xs) ys x = ap (λ vs. y ∷ vs) (append_assoc_one xs ys x)
-
--- ---- choices
-
 choice_net : (cells : List SizedCell) (width : ℕ) (gates : List (List NetId)) (k n wide : ℕ) → k ≤ length gates → StandsBefore cells width k n wide
     → IsNet (cells ++ map (choice width) (take k gates)) n wide
 choice_net cells width gates k n wide l h = elim h [

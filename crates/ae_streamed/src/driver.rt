@@ -2,7 +2,7 @@
 
 ghost use Rattle.std.specs.Prelude.{◌≡◌, ◌+◌, ◌*◌, ◌<◌, ◌≤◌, ◌++◌, OnOk, IfOk, ℕ, length, map};
 ghost use Rattle.ae_netlist.specs.Circuit.{IsNet};
-ghost use Rattle.ae_streamed.specs.Cells.{IsLonger, InRunsFrom, choice};
+ghost use Rattle.ae_streamed.specs.Cells.{IsLonger, choice};
 ghost use Rattle.ae_streamed.specs.Controls.{AreBits, AreWires, HasBegun, HasControlNets, HasFlagGates, IsControl, flag_net, gate_rows, net};
 ghost use Rattle.ae_streamed.specs.Count.{IsFullFor, control_cells};
 

@@ -1,6 +1,6 @@
 // The bits that mark the clocks of a circuit.
 
-ghost use Rattle.std.specs.Prelude.{◌≡◌, ◌%◌, IfOk, map};
+ghost use Rattle.std.specs.Prelude.{◌%◌, IfOk, map};
 ghost use Rattle.ae_sttype.specs.StTree.{st_tree};
 ghost use Rattle.ae_netlist.specs.Circuit.{IsNet};
 ghost use Rattle.ae_clocked.specs.Signals.{Adds, IsFullAt};

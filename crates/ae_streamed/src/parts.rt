@@ -1,6 +1,6 @@
 // Choices between nets, and registers.
 
-ghost use Rattle.std.specs.Prelude.{◌≡◌, ◌+◌, ◌<◌, ◌≤◌, ◌++◌, OnOk, IfOk, ℕ, length, map};
+ghost use Rattle.std.specs.Prelude.{◌≡◌, ◌+◌, ◌<◌, ◌++◌, OnOk, IfOk, ℕ, length, map};
 ghost use Rattle.ae_netlist.specs.Circuit.{IsNet};
 ghost use Rattle.ae_streamed.specs.Cells.{AreChoices, AreConnected, CanConnect, HasRegisters, IsLonger, choice};
 ghost use Rattle.ae_streamed.specs.Controls.{HasAny};

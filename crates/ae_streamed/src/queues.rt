@@ -1,6 +1,6 @@
 // The queue of two words behind each output of a circuit.
 
-ghost use Rattle.std.specs.Prelude.{◌≡◌, ◌+◌, ◌*◌, ◌<◌, ◌≤◌, OnOk, IfOk, ℕ, Some, length, slice_get};
+ghost use Rattle.std.specs.Prelude.{◌≡◌, ◌+◌, ◌*◌, ◌<◌, ◌≤◌, OnOk, ℕ, Some, length, slice_get};
 ghost use Rattle.ae_netlist.specs.Circuit.{IsNet, width_of};
 ghost use Rattle.ae_streamed.specs.Cells.{IsLonger};
 ghost use Rattle.ae_streamed.specs.Columns.{AreColumns, HasColumn};

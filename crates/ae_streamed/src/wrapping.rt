@@ -1,7 +1,7 @@
 // A marked circuit between two channels: a copy of it, the control and the queues around it, and the outputs.
 
-ghost use Rattle.std.specs.Prelude.{◌≡◌, ◌+◌, ◌*◌, ◌<◌, ◌≤◌, ◌++◌, ◌∷◌, [], ◌≢◌, Err, OnOk, IfErr, IfOk, ℕ, Some, length, map, slice_get};
-ghost use Rattle.ae_netlist.specs.Circuit.{HaveNets, IsNet, width_of};
+ghost use Rattle.std.specs.Prelude.{◌≡◌, ◌+◌, ◌*◌, ◌<◌, ◌≤◌, ◌++◌, ◌∷◌, [], ◌≢◌, Err, OnOk, IfErr, IfOk, ℕ, Some, length, slice_get};
+ghost use Rattle.ae_netlist.specs.Circuit.{IsNet, width_of};
 ghost use Rattle.ae_netlist.specs.Counts.{AreWhole};
 ghost use Rattle.ae_stall.specs.Copies.{HasLogicAround, IsCopied, MayBeHeld, reset_cell};
 ghost use Rattle.ae_stall.specs.Held.{IsHeld};

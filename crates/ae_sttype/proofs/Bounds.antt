@@ -1,12 +1,18 @@
 -- What the size of a type says of its parts.
-use Rattle.std.proofs.Common.{◌≡◌, ℕ, ◌+◌, ◌*◌, ◌<◌, ◌≤◌, arith}
-use Rattle.ae_word.specs.AtomTree.{AtomTree, word, pair, atom_words}
+use Rattle.std.proofs.Common.{◌≡◌, ℕ, ◌+◌, ◌*◌, ◌<◌, ◌≤◌, IsTrue, arith}
+use Rattle.ae_word.specs.AtomTree.{AtomTree, word, pair, atom_in_size, atom_words}
 use Rattle.ae_sttype.specs.StTree.{StTree, atom, tseq, sseq, element_atom, time, lanes, st_atoms, element_words}
 use Rattle.ae_sttype.specs.Size.{HasLengths, IsInSize}
 
 pub atom_words_pos : (k : AtomTree) → 0 < atom_words k
 atom_words_pos (word w) = omega arith
 atom_words_pos (pair a b) = omega (arith, atom_words_pos a)
+
+-- the atom of a type in size is in size
+pub sized_atom : (s : StTree) → HasLengths s → IsTrue (atom_in_size (element_atom s))
+sized_atom (atom a) h = h
+sized_atom (tseq n i t) h = sized_atom t h.1
+sized_atom (sseq n t) h = sized_atom t h.1
 
 pub element_words_pos : (s : StTree) → 0 < element_words s
 element_words_pos s = atom_words_pos (element_atom s)

@@ -3,5 +3,4 @@ pub mod Places
 pub mod Finding
 pub mod Lively
 pub mod Limits
-pub mod Shallow
 pub mod MoveTable

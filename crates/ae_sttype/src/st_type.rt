@@ -1,7 +1,7 @@
 // Space-time types, and where their elements stand.
 #![tactic(auto, using(crate::proofs::Bounds::sizes))]
 
-ghost use Rattle.std.specs.Prelude.{◌≡◌, ℕ, ◌*◌, ◌/◌, ◌<◌, ◌++◌, ◌↔◌, slice_get, IsTrue, Some, IfOk, OnOk, nat_le, nat_lt};
+ghost use Rattle.std.specs.Prelude.{◌≡◌, ◌*◌, ◌/◌, ◌<◌, ◌++◌, ◌↔◌, slice_get, IsTrue, Some, IfOk, OnOk, nat_le, nat_lt};
 ghost use Rattle.std.specs.String.{string_bytes};
 ghost use Rattle.ae_word.specs.AtomTree.{atom_tree};
 ghost use Rattle.ae_sttype.specs.StTree.{st_tree, time, lanes, st_atoms, st_depth, element_atom, element_words};

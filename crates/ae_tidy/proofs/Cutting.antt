@@ -1,6 +1,6 @@
 -- Where marks are in a copy.
 use Rattle.std.proofs.Common.{ℕ, ◌≡◌, ◌+◌, ◌<◌, ◌≤◌, Bool, List, [], ◌∷◌, ◌++◌, length, Option, Some, slice_get, get_or, inl, inr, arith, ap, sym, ◌∙◌, subst}
-use Rattle.std.proofs.lemmas.Bool.{cases_eq, cases_lt}
+use Rattle.std.proofs.lemmas.Bool.{cases_eq}
 use Rattle.std.proofs.lemmas.List.{length_push}
 use Rattle.std.proofs.lemmas.Option.{slice_get_within, slice_get-get_or}
 use Rattle.ae_netlist.specs.declared.cell.NetId.{NetId}
@@ -10,7 +10,7 @@ use Rattle.ae_netlist.specs.declared.cell.SizedCell.{SizedCell}
 use Rattle.ae_netlist.proofs.Gets.{get_push_cases}
 use Rattle.ae_tidy.specs.Copies.{IsCopied}
 use Rattle.ae_tidy.specs.Images.{IsImage}
-use Rattle.ae_tidy.specs.Places.{AreBefore, AreCut, AreMadeOf, AreMarks, AreMoved, AreRising, IsCut, IsLike, made_of}
+use Rattle.ae_tidy.specs.Places.{AreBefore, AreCut, AreMadeOf, AreMarks, AreMoved, IsCut, IsLike, made_of}
 use Rattle.ae_tidy.proofs.SameRuns.{AreImages}
 
 -- ---- one pass over the list
@@ -18,9 +18,6 @@ use Rattle.ae_tidy.proofs.SameRuns.{AreImages}
 -- the cells from one number to another are made of cells before the mark
 pub record AreBetween (made : List NetId) (from to mark : ℕ) : Type 0 where
   pub each : (k : ℕ) (own : NetId) → from ≤ k → k < to → slice_get made k ≡ Some own → own.0 < mark
-
-pub between_none : (made : List NetId) (from mark : ℕ) → AreBetween made from from mark
-between_none made from mark = record { each = λ k own f l h. absurd (omega arith) }
 
 pub between_more : (made : List NetId) (from to mark : ℕ) (last : NetId) → slice_get made to ≡ Some last → last.0 < mark → AreBetween made from to mark
     → AreBetween made from (to + 1) mark
@@ -34,44 +31,9 @@ between_more made from to mark last here below b = record {
   ];
 }
 
-before_all : (made : List NetId) (from to mark : ℕ) → AreBetween made from to mark → AreBefore made from mark → AreBefore made to mark
-before_all made from to mark b first = record {
-  each = λ k own l h. elim (cases_lt k from) [ inl early ↦ first.each k own early h | inr late ↦ b.each k own late l h ];
-}
-
-pub cut_here : (made : List NetId) (from place mark : ℕ) (own : NetId) → AreRising made → slice_get made place ≡ Some own → mark ≤ own.0
-    → AreBetween made from place mark → AreBefore made from mark → IsCut made mark place
-cut_here made from place mark own rising here le b first = record {
-  within = (let l : place < length made = slice_get_within made place own here in omega arith);
-  before = before_all made from place mark b first;
-  behind = λ k x l h. elim (cases_eq k place) [
-    | inl e ↦
-        let q : Some x ≡ Some own = sym h ∙ (ap (slice_get made) e ∙ here) in
-        let same : x ≡ own = cc in
-        subst (λ (y : NetId). mark ≤ y.0) (sym same) le
-    | inr ne ↦ (let lt : own.0 < x.0 = rising.each place k own x (omega arith) here h in omega arith)
-  ];
-}
-
-pub cut_end : (made : List NetId) (from place mark : ℕ) → place ≡ length made → AreBetween made from place mark → AreBefore made from mark
-    → IsCut made mark place
-cut_end made from place mark all b first = record {
-  within = omega (arith, all);
-  before = before_all made from place mark b first;
-  behind = λ k x l h. absurd (let w : k < length made = slice_get_within made k x h in omega (arith, all));
-}
-
--- ---- mark by mark
-
 -- the first cells are made of cells before each mark from this one on
 pub record AreSure (made : List NetId) (count : ℕ) (marks : List ℕ) (index : ℕ) : Type 0 where
   pub each : (i mark : ℕ) → index ≤ i → slice_get marks i ≡ Some mark → AreBefore made count mark
-
-pub sure_none : (made : List NetId) (marks : List ℕ) (index : ℕ) → AreSure made 0 marks index
-sure_none made marks index = record { each = λ i mark f h. record { each = λ k own l g. absurd (none_below k l) } }
-  where
-    none_below : (n : ℕ) → n < 0 → ⊥
-    none_below n l = omega arith
 
 pub sure_more : (made : List NetId) (cells count place : ℕ) (marks : List ℕ) (index mark : ℕ) → AreMarks cells count marks → slice_get marks index ≡ Some mark
     → IsCut made mark place → AreSure made place marks (index + 1)
@@ -81,9 +43,6 @@ sure_more made cells count place marks index mark a here cut = record {
         let le : mark ≤ m = a.rising index i mark m (omega arith) here h in omega arith);
   };
 }
-
-pub cut_none : (made : List NetId) (marks : List ℕ) → AreCut made marks []
-cut_none made marks = record { each = λ i mark place h g. cc }
 
 pub cut_more : (made : List NetId) (marks places more : List ℕ) (index mark place : ℕ) → more ≡ places ++ place ∷ [] → length places ≡ index
     → slice_get marks index ≡ Some mark → IsCut made mark place → AreCut made marks places → AreCut made marks more

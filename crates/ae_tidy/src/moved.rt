@@ -1,6 +1,6 @@
 // Where parts of a netlist begin in its copy.
 
-ghost use Rattle.std.specs.Prelude.{◌≡◌, ◌≤◌, ◌<◌, ℕ, IfOk, length};
+ghost use Rattle.std.specs.Prelude.{◌≤◌, ◌<◌, ℕ, IfOk, length};
 ghost use Rattle.ae_tidy.specs.Places.{AreBefore, AreCut, AreMarks, AreRising, IsCut};
 
 use crate::look::net_at;

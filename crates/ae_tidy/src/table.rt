@@ -1,6 +1,6 @@
 // Which net stands in the place of each old one.
 
-ghost use Rattle.std.specs.Prelude.{◌≡◌, ◌++◌, ◌∷◌, [], OnOk, None, Some, nat_le};
+ghost use Rattle.std.specs.Prelude.{◌≡◌, ◌++◌, ◌∷◌, [], OnOk, None, Some};
 ghost use Rattle.ae_tidy.specs.Copies.{IsMapped};
 ghost use Rattle.ae_tidy.specs.Images.{IsImage, Maps, late_cell};
 ghost use Rattle.ae_tidy.specs.Marks.{EachRead};

@@ -189,9 +189,6 @@ read_not_long r a b = cc
 read_not_memory : {A : Type 0} (r : Status) → r ≡ ReadFault → r ≡ Memory → A
 read_not_memory r a b = cc
 
-write_not_long : {A : Type 0} (r : Status) → r ≡ WriteFault → r ≡ TooLong → A
-write_not_long r a b = cc
-
 write_not_memory : {A : Type 0} (r : Status) → r ≡ WriteFault → r ≡ Memory → A
 write_not_memory r a b = cc
 

@@ -29,7 +29,6 @@ use Rattle.ae_rewrite.specs.FailingLine.{failing_line}
 use Rattle.ae_delay.specs.declared.own.OwnCosts.{OwnCosts}
 use Rattle.ae_jobs.specs.PlanTexts.{plan_text}
 use Rattle.ae_jobs.specs.CostTables.{table_text}
-use Rattle.ae_compile.specs.declared.faults.CompileFault.TheVariants as faults
 use Rattle.ae_jobs.specs.Schedules.{IsAnswered, IsCostRefusal, IsCostText}
 use Rattle.ae_jobs.specs.EvalTexts.{eval_size, IsEvalOf, IsEvaluated, Refused, Ran}
 use Rattle.ae_tool.specs.Outcomes.{IsReply, IsDone, HasResult, HasShortRun, IsAccepted}

@@ -20,7 +20,7 @@ use Rattle.ae_vcd.proofs.Reading.{append_none, either, same_byte}
 use Rattle.ae_vcd.proofs.Bodies.{in_reach, present, records_given, records_silent, records_time}
 use Rattle.ae_vcd.proofs.Steps.{body_place, granted, refused, value_place}
 use Rattle.ae_vcd.proofs.Written.{not_less}
-use Rattle.ae_vcd.proofs.Tables.{place_is, room_widest}
+use Rattle.ae_vcd.proofs.Tables.{room_widest}
 
 -- what is so where a piece begins
 pub record InBody (r : Reader) (s : State) : Type 0 where
@@ -260,19 +260,6 @@ value_taken r s code value n now f here on p is =
     (records_given r.recorded now r.declared.codes r.declared.code_widths.items r.declared.numbers.items (variables s.commands) (variables s.commands) s.pieces
     (Binary letter digits code) code n (digits_value 2 digits) tt (λ c was. refl) d.table p (is ∙ ap (set r.recorded.latest.items n) (sym e)) g.holds.1)))
     f
-
-pub value_reach : (r : Reader) (code : List ℕ) (value n : ℕ) → IsReader r → r.expected ≡ ValueCode value → place code r.declared.codes ≡ Some n
-    → n < length r.recorded.latest.items
-value_reach r code value n h here e =
-    value_place (λ mode. Follows r (at h.0.commands h.0.pieces mode) → n < length r.recorded.latest.items) h.0.mode value (sym h.1.expected ∙ here)
-    (λ letter digits q g. (let p = place_is code r.declared.codes n e in let l = p.0 in let m = g.holds.1.each in omega arith)) h.1
-
-pub bit_reach : (r : Reader) (code : List ℕ) (n : ℕ) → IsReader r → r.expected ≡ PieceHead → place code r.declared.codes ≡ Some n
-    → n < length r.recorded.latest.items
-bit_reach r code n h here e =
-    (let i = in_body r h.0 h.1 here in let p = place_is code r.declared.codes n e in let l = p.0 in let m = i.records.each in omega arith)
-
--- ---- other words
 
 pub comment_taken : (r : Reader) (s : State) (w : List ℕ) → Follows r s → r.expected ≡ PieceHead → bytes_eq w (codes "$comment") ≡ true
     → Answers true (record r { expected = CommentRest }) (step s w)

@@ -23,9 +23,6 @@ pub record HasReached (text : List ℕ) (at : ℕ) (rest : List ℕ) (r : Reader
   pub others : drop at (text_words text) ≡ text_words rest
   pub within : at ≤ length (text_words text)
 
-pub reach_start : (text : List ℕ) (r : Reader) → Follows r start → HasReached text 0 text r
-reach_start text r f = record { state = start; read = refl; follows = f; others = refl; within = omega arith }
-
 record HasHead (ws : List (List ℕ)) (k : ℕ) (x : List ℕ) (ys : List (List ℕ)) : Type 0 where
   pub within : k < length ws
   pub head : get_or ws k [] ≡ x

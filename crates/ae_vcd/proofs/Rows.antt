@@ -5,7 +5,7 @@ use Rattle.std.specs.List.{flat_map}
 use Rattle.std.specs.Str.Parse.{digits_value}
 use Rattle.std.proofs.lemmas.Bool.{cases_lt, eq-eqb, lt-ltb, ne_eqb, cases_Bool, ltb-true}
 use Rattle.std.proofs.lemmas.Grind.{flat_map-append}
-use Rattle.ae_vcd.specs.Forms.{Binary, Bit, Comment, Piece, Silent, Time, Variable, time_after}
+use Rattle.ae_vcd.specs.Forms.{Binary, Bit, Comment, Piece, Silent, Time, Variable}
 use Rattle.ae_vcd.specs.Machine.{time_of}
 use Rattle.ae_vcd.specs.Readings.{last_given, next_time, times_from, up_to, words_at_time}
 use Rattle.ae_vcd.proofs.Reading.{append_none}

@@ -3,7 +3,7 @@
 ghost use Rattle.std.specs.Prelude.{◌≡◌, ℕ, ◌+◌, ◌++◌, ◌∷◌, [], ◌<◌, ◌≤◌, ◌^◌, length, List, true, None, Some, IfOk, OnOk, is_some, replicate, if◌then◌else◌};
 ghost use Rattle.std.specs.List.{All};
 ghost use Rattle.std.specs.Str.Parse.{digits_value};
-ghost use Rattle.ae_vcd.specs.Forms.{Piece, Time, Variable, is_after};
+ghost use Rattle.ae_vcd.specs.Forms.{Piece, Time, Variable};
 ghost use Rattle.ae_vcd.specs.Machine.{time_of};
 ghost use Rattle.ae_vcd.specs.Rows.{words_now};
 ghost use Rattle.ae_vcd.specs.Held.{HasAdvanced, HasTimes, IsClosed, IsFresh, IsLater, is_small, row};

@@ -1,7 +1,7 @@
 // Where a reader stands.
 
 ghost use Rattle.std.specs.Prelude.{◌≡◌};
-ghost use Rattle.ae_vcd.specs.Forms.{end_word, is_other};
+ghost use Rattle.ae_vcd.specs.Forms.{is_other};
 ghost use Rattle.ae_vcd.specs.Held.{behind, behind_head};
 
 use crate::shapes::{is_end, is_other, width};

@@ -1,6 +1,6 @@
 // The variables of a header.
 
-ghost use Rattle.std.specs.Prelude.{◌≡◌, ◌++◌, ◌∷◌, [], ◌<◌, ◌≤◌, length, true, IsTrue, IfOk, OnOk, MatchOption, Some, List, string_bytes};
+ghost use Rattle.std.specs.Prelude.{◌≡◌, ◌++◌, ◌∷◌, [], ◌<◌, ◌≤◌, true, IsTrue, IfOk, OnOk, MatchOption, Some, List, string_bytes};
 ghost use Rattle.ae_vcd.specs.Waves.{is_variable_name};
 ghost use Rattle.ae_vcd.specs.Codes.{place};
 ghost use Rattle.ae_vcd.specs.Forms.{Variable, agrees};

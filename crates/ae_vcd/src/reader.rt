@@ -1,6 +1,6 @@
 // A reader of dumps, word by word.
 
-ghost use Rattle.std.specs.Prelude.{◌≡◌, ◌+◌, ◌<◌, ◌≤◌, ◌^◌, ◌∷◌, ◌||◌, nat_eq, true, false, length, IfOk, OnOk, IsTrue, if◌then◌else◌};
+ghost use Rattle.std.specs.Prelude.{◌≡◌, ◌+◌, ◌<◌, ◌≤◌, ◌^◌, ◌∷◌, ◌||◌, nat_eq, true, false, IfOk, OnOk, IsTrue, if◌then◌else◌};
 ghost use Rattle.ae_vcd.specs.Forms.{is_binary_digit};
 ghost use Rattle.ae_vcd.specs.Machine.{State, start, step};
 ghost use Rattle.ae_vcd.specs.declared.expected.Expected.TheVariants.{CodeWord, HeaderEnd, NameWord, PieceHead, ValueCode};

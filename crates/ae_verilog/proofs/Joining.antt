@@ -1,10 +1,10 @@
 -- Text behind text, and the steps of loops that write.
-use Rattle.std.proofs.Common.{◌≡◌, ℕ, ◌+◌, ◌<◌, ◌≤◌, List, [], ◌∷◌, ◌++◌, ◌⊎◌, inl, inr, sym, ap, ◌∙◌, subst, append_assoc, append-nil, length, take, get_or, arith, length-take-le}
-use Rattle.std.proofs.lemmas.List.{take_more, take_all, get_or_default}
+use Rattle.std.proofs.Common.{◌≡◌, ℕ, ◌+◌, ◌<◌, List, [], ◌∷◌, ◌++◌, ◌⊎◌, inl, inr, sym, ap, ◌∙◌, subst, append_assoc, append-nil, length, take, get_or, arith, length-take-le}
+use Rattle.std.proofs.lemmas.List.{take_more, get_or_default}
 use Rattle.std.proofs.lemmas.Bool.{cases_eq}
 use Rattle.std.proofs.lemmas.Grind.{flat_map-append}
 use Rattle.std.proofs.lemmas.Fmt.{decimal_digit}
-use Rattle.std.specs.Prelude.{decimal, All}
+use Rattle.std.specs.Prelude.{decimal}
 use Rattle.std.specs.List.{flat_map}
 use Rattle.ae_verilog.specs.NetlistModule.{each_numbered}
 
@@ -33,10 +33,6 @@ pub listed_more : {X : Type 0} (f : ℕ → X → List ℕ) (xs : List X) (i : �
     → c ≡ b ++ f i (get_or xs i d) → c ≡ a ++ each_numbered f 0 (take (i + 1) xs)
 listed_more f xs i d a b c inside before here = joined a b c _ _ before here ∙ ap (λ l. a ++ l) (sym (listed_take f xs i d inside))
 
-pub listed_whole : {X : Type 0} (f : ℕ → X → List ℕ) (xs : List X) (i : ℕ) (a b : List ℕ) → length xs ≤ i → b ≡ a ++ each_numbered f 0 (take i xs) → b ≡ a
-    ++ each_numbered f 0 xs
-listed_whole f xs i a b past h = h ∙ ap (λ l. a ++ each_numbered f 0 l) (take_all i xs past)
-
 mapped_take : {X : Type 0} (f : X → List ℕ) (xs : List X) (i : ℕ) (d : X) → i < length xs → flat_map f (take (i + 1) xs) ≡ flat_map f (take i xs)
     ++ f (get_or xs i d)
 mapped_take f xs i d inside =
@@ -47,9 +43,6 @@ mapped_take f xs i d inside =
 pub mapped_more : {X : Type 0} (f : X → List ℕ) (xs : List X) (i : ℕ) (d : X) (a b c : List ℕ) → i < length xs → b ≡ a ++ flat_map f (take i xs) → c ≡ b
     ++ f (get_or xs i d) → c ≡ a ++ flat_map f (take (i + 1) xs)
 mapped_more f xs i d a b c inside before here = joined a b c _ _ before here ∙ ap (λ l. a ++ l) (sym (mapped_take f xs i d inside))
-
-pub mapped_whole : {X : Type 0} (f : X → List ℕ) (xs : List X) (i : ℕ) (a b : List ℕ) → length xs ≤ i → b ≡ a ++ flat_map f (take i xs) → b ≡ a ++ flat_map f xs
-mapped_whole f xs i a b past h = h ∙ ap (λ l. a ++ flat_map f l) (take_all i xs past)
 
 -- what holds of the first elements
 abbrev pub OfFirst : {X : Type 0} → (X → Type 0) → List X → ℕ → Type 0
@@ -64,9 +57,6 @@ first_more P xs i d inside before here k e below within = elim (lt_or_eq k i bel
   where
     lt_or_eq : (k i : ℕ) → k < i + 1 → (k < i) ⊎ (k ≡ i)
     lt_or_eq k i h = elim (cases_eq k i) [ inl same ↦ inr same | inr other ↦ inl (omega arith) ]
-
-pub first_whole : {X : Type 0} (P : X → Type 0) (xs : List X) (i : ℕ) → length xs ≤ i → OfFirst P xs i → All P xs
-first_whole P xs i past h k d within = h k d (omega arith) within
 
 pub one_digit : (n : ℕ) → n < 10 → decimal n ≡ (48 + n) ∷ []
 one_digit n h = decimal_digit n h

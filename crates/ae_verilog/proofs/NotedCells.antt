@@ -1,8 +1,7 @@
 -- Loops that write cells with notes between them.
-use Rattle.std.proofs.Common.{◌≡◌, ℕ, suc, ◌+◌, ◌-◌, ◌<◌, ◌≤◌, ◌⊎◌, inl, inr, List, [], ◌∷◌, ◌++◌, length, map, take, drop, get_or, sym, ap, ◌∙◌, arith, append_assoc, append-nil}
+use Rattle.std.proofs.Common.{◌≡◌, ℕ, suc, ◌+◌, ◌-◌, ◌<◌, List, ◌∷◌, ◌++◌, length, map, take, drop, get_or, sym, ap, ◌∙◌, arith, append_assoc}
 use Rattle.std.specs.Prelude.{max}
 use Rattle.std.proofs.Math.Seq.{drop-cons}
-use Rattle.std.proofs.lemmas.List.{take_all, drop_all}
 use Rattle.ae_netlist.specs.declared.cell.SizedCell.{SizedCell}
 use Rattle.ae_verilog.specs.NetlistModule.{each_numbered}
 use Rattle.ae_verilog.specs.Notes.{NoteTree, note_line}
@@ -22,17 +21,6 @@ between_more f cells k to d a b whole before inside step h =
         ap (λ xs. each_numbered f k (take (to - k) xs)) (drop-cons cells k d inside)
         ∙ ap (λ n. each_numbered f k (take n (get_or cells k d ∷ drop (suc k) cells))) count
         ∙ ap (λ n. f k (get_or cells k d) ++ each_numbered f (k + 1) (take (to - (k + 1)) (drop n cells))) (let same : suc k ≡ k + 1 = omega arith in same)
-
--- none is left
-pub between_none : (f : ℕ → SizedCell → List ℕ) (cells : List SizedCell) (k to : ℕ) (a whole : List ℕ) → (to ≤ k) ⊎ (length cells ≤ k) → a
-    ++ between f cells k to ≡ whole → a ≡ whole
-between_none f cells k to a whole end h = sym (append-nil a) ∙ ap (λ l. a ++ l) (sym none) ∙ h
-  where
-    none : between f cells k to ≡ []
-    none = elim end [
-      | inl past ↦ ap (λ n. each_numbered f k (take n (drop k cells))) (let e : to - k ≡ 0 = omega arith in e)
-      | inr past ↦ ap (λ xs. each_numbered f k (take (to - k) xs)) (drop_all k cells past) ∙ ap (each_numbered f k) (take_all (to - k) [] (omega arith))
-    ]
 
 -- one more note
 pub noted_more : {X : Type 0} (g : X → NoteTree) (f : ℕ → SizedCell → List ℕ) (cells : List SizedCell) (k m i : ℕ) (xs : List X) (x : X) (a b c whole : List ℕ)

@@ -8,7 +8,7 @@ use Rattle.ae_netlist.specs.declared.cell.SizedCell.{SizedCell}
 use Rattle.ae_netlist.specs.declared.cell.Outlet.{Outlet}
 use Rattle.ae_vread.specs.ModuleTree.{NetTree}
 use Rattle.ae_verilog.specs.declared.interface.PortList.{PortList}
-use Rattle.ae_verilog.specs.NetlistModule.{input_nets, output_net}
+use Rattle.ae_verilog.specs.NetlistModule.{input_nets}
 use Rattle.ae_verilog.specs.PortNets.{HasNets, input_ports}
 
 abbrev name_of : NetTree → List ℕ

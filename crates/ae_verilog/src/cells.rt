@@ -6,7 +6,7 @@ ghost use Rattle.ae_vread.specs.declared.module.BinOp.TheVariants.{Lt as Less};
 ghost use Rattle.ae_netlist.specs.Circuit.{width_of};
 ghost use Rattle.ae_verilog.specs.NetlistModule.{op_expression, net_value, net_name, cast_to, binary_nets};
 ghost use Rattle.ae_verilog.specs.Notes.{note_tree, table_line};
-ghost use Rattle.ae_verilog.specs.Text.{between, noted, wire_text, value_text, widened_text, register_text, memory_text, op_text, declaration_text, expr_text, is_cast, arms_text, shift_text};
+ghost use Rattle.ae_verilog.specs.Text.{between, noted, wire_text, value_text, register_text, memory_text, op_text, declaration_text, expr_text, is_cast, arms_text, shift_text};
 
 use crate::header::width_at;
 use crate::names::{Names, write_net, write_number, write_range};

@@ -1,17 +1,17 @@
 -- What is written as an expression is read again.
-use Rattle.std.proofs.Common.{◌≡◌, ℕ, zero, suc, ◌+◌, ◌-◌, ◌<◌, ◌≤◌, List, [], ◌∷◌, ◌++◌, length, length-append, Bool, true, false, Option, Some, None, refl, sym, ap, ◌∙◌, subst, arith, append_assoc, append-nil, max, lit≤, inl, inr}
+use Rattle.std.proofs.Common.{◌≡◌, ℕ, zero, suc, ◌+◌, ◌-◌, ◌<◌, ◌≤◌, List, [], ◌∷◌, ◌++◌, length, length-append, true, Some, None, refl, ap, ◌∙◌, arith, append_assoc, max, inl, inr}
 use Rattle.std.specs.Prelude.{nat_le}
 use Rattle.std.proofs.lemmas.Bool.{lt-ltb, le-leb, leb-true, cond-true, cond-false, cases_Bool}
-use Rattle.ae_vtoken.specs.Tokens.{TokenTree, Name, Zero, Decimal, Sized, Mark}
-use Rattle.ae_vtoken.specs.declared.token.Sign.TheVariants.{Open, Close, OpenBracket, CloseBracket, OpenBrace, CloseBrace, Comma, Colon, Question}
+use Rattle.ae_vtoken.specs.Tokens.{TokenTree, Mark}
+use Rattle.ae_vtoken.specs.declared.token.Sign.TheVariants.{Close, OpenBracket, CloseBracket, CloseBrace, Comma, Colon, Question}
 use Rattle.ae_vread.specs.declared.module.UnOp.{UnOp}
 use Rattle.ae_vread.specs.declared.module.UnOp.TheVariants.{Not, Flip}
 use Rattle.ae_vread.specs.declared.module.BinOp.{BinOp}
-use Rattle.ae_vread.specs.ModuleTree.{ExprTree, name, constant, place, part, index, unary, binary, choice, concat_one, concat_more}
-use Rattle.ae_vread.specs.ExprForms.{NumberForm, ZeroForm, DecimalForm, number_token, number_value, ExprForm, NameForm, ConstForm, PartForm, PlaceForm, IndexForm, ParensForm, PrefixForm, InfixForm, ChoiceForm, BracesForm, LastPart, MoreParts, prefix_sign, infix_sign, strength, level, IsFormedExpr, expr_tokens, expr_of, expr_depth}
+use Rattle.ae_vread.specs.ModuleTree.{ExprTree, index, unary, binary, choice, concat_more}
+use Rattle.ae_vread.specs.ExprForms.{NumberForm, ZeroForm, DecimalForm, ExprForm, NameForm, ConstForm, PartForm, PlaceForm, IndexForm, ParensForm, PrefixForm, InfixForm, ChoiceForm, BracesForm, LastPart, MoreParts, prefix_sign, infix_sign, strength, level, IsFormedExpr, expr_tokens, expr_of, expr_depth}
 use Rattle.ae_vread.specs.TokenTests.{◌>>=◌, after_mark, first_number}
-use Rattle.ae_vread.specs.Reading.{sign_start, StartPrefix, Found, found, Reader, deeper, closed, placed, indexed, selected, named, Parts, parts_of, with_part, by_comma, more_parts, parts, concat_behind, concat_of, braced, operand, prefixed, unary_from, unary_at, joined, after_operator, operators, chosen_of, by_question, chosen, joined_at, expression, whole_expression}
-use Rattle.ae_vread.proofs.Operators.{OpEnds, strength_below, strength_above, infix_no_bracket, infix_here, infix_not_here, ends_above, above_all}
+use Rattle.ae_vread.specs.Reading.{sign_start, StartPrefix, Found, found, Reader, deeper, closed, indexed, selected, named, parts_of, with_part, more_parts, parts, concat_behind, concat_of, braced, operand, prefixed, unary_from, unary_at, joined, after_operator, operators, chosen_of, by_question, chosen, joined_at, expression, whole_expression}
+use Rattle.ae_vread.proofs.Operators.{OpEnds, strength_below, strength_above, infix_no_bracket, infix_here, infix_not_here, ends_above}
 
 abbrev pub found_form : ExprForm → List TokenTree → Found
 found_form f rest = found (expr_of f) (expr_depth f) rest

@@ -1,8 +1,8 @@
 -- One turn of the loop over items, and the names of drives.
-use Rattle.std.proofs.Common.{◌≡◌, ℕ, zero, suc, ◌+◌, ◌-◌, ◌<◌, ◌≤◌, List, [], ◌∷◌, ◌++◌, length, Option, Some, None, Result, Ok, Err, refl, sym, ap, ◌∙◌, subst, arith, take, get_or, map}
+use Rattle.std.proofs.Common.{◌≡◌, ℕ, zero, suc, ◌+◌, ◌-◌, ◌<◌, ◌≤◌, List, [], ◌∷◌, ◌++◌, length, Option, Some, None, Result, Err, refl, sym, ap, ◌∙◌, subst, arith, take, get_or, map}
 use Rattle.std.specs.Prelude.{string_bytes}
 use Rattle.ae_vread.specs.TokenTests.{after_word}
-use Rattle.ae_vread.specs.ModuleTree.{NetTree, DriveTree}
+use Rattle.ae_vread.specs.ModuleTree.{NetTree}
 use Rattle.ae_vread.specs.View.{net_tree, drive_tree}
 use Rattle.ae_vread.specs.ItemReading.{ItemFound, item_at, is_last, Held, with_item, finished, by_item, items, net_by, drive_nets}
 use Rattle.ae_vread.specs.ItemView.{GivesHeld}

@@ -1,5 +1,5 @@
 -- One turn of the loops over lists.
-use Rattle.std.proofs.Common.{◌≡◌, ℕ, zero, suc, ◌+◌, ◌-◌, ◌<◌, ◌≤◌, List, ◌++◌, length, Option, Some, None, Result, refl, sym, ap, ◌∙◌, subst, arith}
+use Rattle.std.proofs.Common.{◌≡◌, ℕ, suc, ◌+◌, ◌-◌, ◌<◌, ◌≤◌, List, ◌++◌, length, Option, Some, None, ap, ◌∙◌, arith}
 use Rattle.ae_vtoken.specs.Tokens.{TokenTree}
 use Rattle.ae_vread.specs.declared.reading.ReadFault.{ReadFault}
 use Rattle.ae_vread.specs.declared.reading.ReadFault.TheVariants.{Syntax, Memory}

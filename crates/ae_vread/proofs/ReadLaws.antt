@@ -1,18 +1,18 @@
 -- From what reading the tokens gives to what a text spells.
 use Rattle.std.proofs.Common.{◌≡◌, ℕ, List, Result, Ok, Err, refl, sym, ap, ◌∙◌, subst}
 use Rattle.std.specs.Prelude.{IfOk}
-use Rattle.ae_vtoken.specs.Tokens.{TokenTree, AreTokens, IsBadToken}
+use Rattle.ae_vtoken.specs.Tokens.{TokenTree, AreTokens}
 use Rattle.ae_vread.specs.ModuleTree.{ModuleTree}
-use Rattle.ae_vread.specs.Forms.{module_tokens, module_of}
+use Rattle.ae_vread.specs.Forms.{module_tokens}
 use Rattle.ae_vread.specs.Spells.{Spells}
 use Rattle.ae_vread.specs.View.{module_tree}
 use Rattle.ae_vread.specs.ItemReading.{TreeFault, HeaderFault, ItemFault, read_module}
 use Rattle.ae_vread.specs.ItemView.{GivesRead}
-use Rattle.ae_vread.specs.Refusals.{HasFault, FaultHolds, GivesModule, IsOrMemory, GivesFault}
+use Rattle.ae_vread.specs.Refusals.{HasFault, FaultHolds, GivesModule, GivesFault}
 use Rattle.ae_vread.specs.declared.module.VModule.{VModule}
 use Rattle.ae_vread.specs.declared.reader.VFault.{VFault}
 use Rattle.ae_vread.specs.declared.reader.VFault.TheVariants.{BadToken, BadHeader, BadItem, Memory}
-use Rattle.ae_vtoken.proofs.OneList.{one_list, not_both, one_place}
+use Rattle.ae_vtoken.proofs.OneList.{one_list, not_both}
 use Rattle.ae_vread.proofs.ModuleLaws.{IsModule, ModuleMeans, module_means, module_again, bad_header_again, bad_item_again}
 
 abbrev Answer : Type 0
@@ -80,13 +80,3 @@ every_fault_of text ts r are gives BadHeader has =
 every_fault_of text ts r are gives (BadItem k) has =
     item_fault r (read_module ts) k gives (ap read_module (one_list ts has.0 text text refl are has.1) ∙ bad_item_again has.0 k has.2)
 every_fault_of text ts r are gives Memory has = absurd has
-
--- at a bad byte
-pub no_module_at : (text : List ℕ) (at : ℕ) → IsBadToken text at → (m : ModuleTree) → Spells text m → GivesModule m (Err (BadToken at))
-no_module_at text at bad m s = not_both text (module_tokens s.form) at s.written bad
-
-pub bad_token_at : (text : List ℕ) (at : ℕ) → IsBadToken text at → (e : VFault) → HasFault text e → GivesFault e (Err (BadToken at))
-bad_token_at text at bad (BadToken other) has = ap BadToken (one_place text other at has bad)
-bad_token_at text at bad BadHeader has = absurd (not_both text has.0 at has.1 bad)
-bad_token_at text at bad (BadItem k) has = absurd (not_both text has.0 at has.1 bad)
-bad_token_at text at bad Memory has = absurd has

@@ -1,10 +1,9 @@
 -- Concatenations and blocks, by the lists that they hold.
 use mathlib.Core.Former.{Count}
-use Rattle.std.proofs.Common.{◌≡◌, List, [], ◌∷◌, refl, sym, ap, ◌∙◌, Vec, Global, map}
-use Rattle.ae_vread.specs.ModuleTree.{ExprTree, StmtTree, block_end, block_more, concat_more}
+use Rattle.std.proofs.Common.{◌≡◌, refl, ap, ◌∙◌, Vec, Global, map}
+use Rattle.ae_vread.specs.ModuleTree.{ExprTree, block_more, concat_more}
 use Rattle.ae_vread.specs.View.{expr_tree, parts_tree, parts_behind, stmt_tree, block_tree}
 use Rattle.ae_vread.specs.Reading.{concat_of, concat_behind}
-use Rattle.ae_vread.specs.declared.module.Expr as e
 use Rattle.ae_vread.specs.declared.module.Expr.{Expr, Concat, Concat', Row_of-Expr, end_of-Expr, more_of-Expr, items-the_row-Expr, items_hidden-the_row-Expr-0}
 use Rattle.ae_vread.specs.StmtReading.{block_of}
 use Rattle.ae_vread.specs.declared.module.Stmt.{Stmt, Block, Block', Row_of-Stmt, end_of-Stmt, more_of-Stmt, items-the_row-Stmt, items_hidden-the_row-Stmt-0}

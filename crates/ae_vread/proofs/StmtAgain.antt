@@ -1,16 +1,16 @@
 -- What is written as a statement is read again.
-use Rattle.std.proofs.Common.{◌≡◌, ℕ, zero, suc, ◌+◌, ◌<◌, ◌≤◌, List, [], ◌∷◌, ◌++◌, length, length-append, Bool, true, false, Option, Some, None, refl, sym, ap, ◌∙◌, subst, arith, append_assoc, append-nil, max}
+use Rattle.std.proofs.Common.{◌≡◌, ℕ, zero, suc, ◌+◌, ◌<◌, ◌≤◌, List, [], ◌∷◌, ◌++◌, length, length-append, true, false, Some, None, refl, sym, ap, ◌∙◌, arith, append_assoc, append-nil, max}
 use Rattle.std.proofs.lemmas.Bool.{both_ways}
-use Rattle.ae_vtoken.specs.Tokens.{TokenTree, Name, Word, Mark}
-use Rattle.ae_vtoken.specs.declared.token.Key.TheVariants.{If, Else, Begin, End}
+use Rattle.ae_vtoken.specs.Tokens.{TokenTree, Word, Mark}
+use Rattle.ae_vtoken.specs.declared.token.Key.TheVariants.{Else, End}
 use Rattle.ae_vtoken.specs.declared.token.Sign.{Sign}
-use Rattle.ae_vtoken.specs.declared.token.Sign.TheVariants.{Open, Close, OpenBracket, CloseBracket, Semicolon, AtMost}
+use Rattle.ae_vtoken.specs.declared.token.Sign.TheVariants.{Close, CloseBracket, Semicolon, AtMost}
 use Rattle.ae_vread.specs.ModuleTree.{StmtTree, set, put, when, either, block_more, place}
 use Rattle.ae_vread.specs.ExprForms.{NumberForm, ZeroForm, DecimalForm, number_value, ExprForm, level, IsFormedExpr, expr_tokens, expr_of, expr_depth}
 use Rattle.ae_vread.specs.StmtForms.{StmtForm, SetForm, PutPlaceForm, PutForm, IfForm, IfElseForm, BlockForm, NoMore, More, is_statement, is_open, IsStatement, test_tokens, stmt_tokens, stmt_of, stmt_depth}
 use Rattle.ae_vread.specs.TokenTests.{◌>>=◌, after_mark, after_word, first_number}
-use Rattle.ae_vread.specs.Reading.{Found, found, deeper}
-use Rattle.ae_vread.specs.StmtReading.{StmtFound, stmt_found, Body, body_of, StmtReader, value_then, assigned, set_from, put_place, put_from, put_by, target_from, test_then, either_of, with_else, choice_from, block_of, with_statement, by_end, body, blocked, statement_at, statement, whole_statement}
+use Rattle.ae_vread.specs.Reading.{found}
+use Rattle.ae_vread.specs.StmtReading.{StmtFound, stmt_found, body_of, StmtReader, value_then, assigned, set_from, put_place, put_from, put_by, either_of, with_else, choice_from, block_of, with_statement, by_end, body, blocked, statement_at, statement, whole_statement}
 use Rattle.ae_vread.proofs.TokenFronts.{word_was}
 use Rattle.ae_vread.proofs.ExprAgain.{found_form, Ends, no_number, deepened, whole_again}
 

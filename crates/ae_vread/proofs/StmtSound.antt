@@ -1,16 +1,15 @@
 -- What is read as a statement is written so.
-use Rattle.std.proofs.Common.{◌≡◌, ℕ, zero, suc, ◌+◌, ◌≤◌, List, [], ◌∷◌, ◌++◌, length, Bool, true, false, Option, Some, None, refl, sym, ap, ◌∙◌, subst, arith, append_assoc, append-nil, max}
+use Rattle.std.proofs.Common.{◌≡◌, ℕ, zero, suc, ◌+◌, ◌≤◌, List, [], ◌∷◌, ◌++◌, length, true, false, Option, Some, None, refl, sym, ap, ◌∙◌, subst, arith, append_assoc, append-nil, max}
 use Rattle.ae_vtoken.specs.Tokens.{TokenTree, Name, Word, Unused, Zero, Decimal, Sized, Mark}
-use Rattle.ae_vtoken.specs.declared.token.Key.{Key}
 use Rattle.ae_vtoken.specs.declared.token.Key.TheVariants.{If, Else, Begin, End}
 use Rattle.ae_vtoken.specs.declared.token.Sign.{Sign}
 use Rattle.ae_vtoken.specs.declared.token.Sign.TheVariants.{Open, Close, OpenBracket, CloseBracket, Semicolon, AtMost}
-use Rattle.ae_vread.specs.ModuleTree.{ExprTree, StmtTree, set, put, when, either, block_more, place}
-use Rattle.ae_vread.specs.ExprForms.{number_token, number_value, ExprForm, level, IsFormedExpr, expr_tokens, expr_of, expr_depth}
+use Rattle.ae_vread.specs.ModuleTree.{StmtTree, set, put, when, either, place}
+use Rattle.ae_vread.specs.ExprForms.{number_token, ExprForm, level, IsFormedExpr, expr_tokens, expr_of, expr_depth}
 use Rattle.ae_vread.specs.StmtForms.{StmtForm, SetForm, PutPlaceForm, PutForm, IfForm, IfElseForm, BlockForm, NoMore, More, is_statement, is_open, IsStatement, test_tokens, stmt_tokens, stmt_of, stmt_depth}
 use Rattle.ae_vread.specs.TokenTests.{◌>>=◌, after_mark, after_word, first_number}
-use Rattle.ae_vread.specs.Reading.{Found, found, deeper, whole_expression}
-use Rattle.ae_vread.specs.StmtReading.{StmtFound, stmt_found, Body, body_of, StmtReader, value_then, assigned, set_from, put_place, put_from, put_by, target_from, test_then, either_of, with_else, choice_from, block_of, with_statement, by_end, body, blocked, StmtStart, StartTarget, StartIf, StartBegin, NoStmt, stmt_start, statement_from, statement_at, statement, whole_statement}
+use Rattle.ae_vread.specs.Reading.{Found, found, whole_expression}
+use Rattle.ae_vread.specs.StmtReading.{StmtFound, stmt_found, Body, body_of, StmtReader, value_then, assigned, set_from, put_place, put_from, put_by, target_from, test_then, either_of, with_else, choice_from, block_of, with_statement, by_end, body, blocked, StmtStart, StartTarget, StartIf, StartBegin, NoStmt, stmt_start, statement_from, statement, whole_statement}
 use Rattle.ae_vread.proofs.TokenFronts.{bind_some, mark_was, word_was, IsNumber, number_was}
 use Rattle.ae_vread.proofs.ExprSound.{IsReading, whole_sound, deepened_was, some_same}
 use Rattle.ae_vread.proofs.StmtAgain.{IsFree, stmts_of, block_stmts}

@@ -1,5 +1,5 @@
 -- One turn of the loop over the statements of a block.
-use Rattle.std.proofs.Common.{◌≡◌, ℕ, zero, suc, ◌+◌, ◌-◌, ◌<◌, List, Option, Some, None, Result, refl, sym, ap, ◌∙◌, subst, arith}
+use Rattle.std.proofs.Common.{◌≡◌, ℕ, zero, suc, ◌+◌, ◌-◌, ◌<◌, List, Option, Some, None, Result, refl, ap, ◌∙◌, subst, arith}
 use Rattle.ae_vtoken.specs.Tokens.{TokenTree}
 use Rattle.ae_vread.specs.declared.reading.ReadFault.{ReadFault}
 use Rattle.ae_vtoken.specs.declared.token.Key.TheVariants.{End}

@@ -1,11 +1,11 @@
 -- Which token stood in front.
-use Rattle.std.proofs.Common.{◌≡◌, ℕ, List, [], ◌∷◌, Bool, true, false, Option, Some, None, refl, sym, ap, ◌∙◌, get_or}
+use Rattle.std.proofs.Common.{◌≡◌, ℕ, List, [], ◌∷◌, true, false, Option, Some, None, refl, sym, ap, ◌∙◌, get_or}
 use Rattle.std.specs.Prelude.{nat_eq}
 use Rattle.std.proofs.lemmas.Bool.{eqb-true}
 use Rattle.std.proofs.lemmas.Option.{cond_some}
 use Rattle.ae_vtoken.specs.Tokens.{TokenTree, Name, Word, Unused, Zero, Decimal, Sized, Mark}
 use Rattle.ae_vread.specs.ExprForms.{NumberForm, ZeroForm, DecimalForm, number_token, number_value}
-use Rattle.ae_vread.specs.TokenTests.{◌>>=◌, sign_number, key_number, is_mark, is_word, after_mark, after_word, name_of_token, first_name, number_of_token, first_number}
+use Rattle.ae_vread.specs.TokenTests.{◌>>=◌, sign_number, key_number, is_mark, is_word, after_mark, after_word, first_name, first_number}
 use Rattle.ae_vtoken.specs.declared.token.Key.{Key}
 use Rattle.ae_vtoken.specs.declared.token.Key.TheVariants as k
 use Rattle.ae_vtoken.specs.declared.token.Sign.{Sign}

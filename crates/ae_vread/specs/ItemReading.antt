@@ -1,5 +1,5 @@
 -- Reading a module's header and items from a list of tokens, from the left.
-use Rattle.std.specs.Prelude.{◌≡◌, ℕ, zero, suc, ◌+◌, List, [], ◌∷◌, ◌++◌, Bool, true, false, length, map, min, drop, is_some, Option, Some, None, Result, Ok, Err, option_map, if◌then◌else◌}
+use Rattle.std.specs.Prelude.{ℕ, zero, suc, ◌+◌, List, [], ◌∷◌, ◌++◌, Bool, true, false, length, map, min, drop, is_some, Option, Some, None, Result, Ok, Err, if◌then◌else◌}
 use Rattle.ae_vtoken.specs.Tokens.{TokenTree, Word, Zero}
 use Rattle.ae_vread.specs.ModuleTree.{NetTree, DriveTree, ItemTree, nets, assigns, always, ModuleTree}
 use Rattle.ae_vread.specs.TokenTests.{◌>>=◌, after_mark, after_word, first_name, first_number}

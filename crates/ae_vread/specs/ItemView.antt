@@ -1,5 +1,5 @@
 -- What the readers of headers, items and modules of the code give, apart from where it lies in memory.
-use Rattle.std.specs.Prelude.{◌≡◌, ℕ, List, [], map, Option, Some, None, Result, Ok, Err, option_map, string_bytes}
+use Rattle.std.specs.Prelude.{◌≡◌, ℕ, map, Result, Ok, Err, string_bytes}
 use Rattle.ae_vread.specs.ModuleTree.{ModuleTree}
 use Rattle.ae_vtoken.specs.Scan.{views}
 use Rattle.ae_vread.specs.View.{net_tree, item_tree, module_tree}

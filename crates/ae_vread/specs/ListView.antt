@@ -1,6 +1,5 @@
 -- What the readers of lists and items of the code give, apart from where it lies in memory.
-use Rattle.std.specs.Prelude.{◌≡◌, ℕ, List, [], ◌∷◌, map, Option, Some, None, Result, Ok, Err, string_bytes}
-use Rattle.ae_vtoken.specs.Tokens.{TokenTree}
+use Rattle.std.specs.Prelude.{[], ◌∷◌, map, string_bytes}
 use Rattle.ae_vread.specs.ModuleTree.{NetTree, DriveTree}
 use Rattle.ae_vtoken.specs.Scan.{views}
 use Rattle.ae_vread.specs.View.{net_tree, drive_tree, expr_tree}

@@ -1,6 +1,5 @@
 -- Where the tokens of a text leave the grammar.
 use Rattle.std.specs.Prelude.{◌≡◌, ℕ, List, [], ◌∷◌, ◌++◌, true, length}
-use Rattle.std.specs.List.{flat_map}
 use Rattle.ae_vtoken.specs.Tokens.{TokenTree, Name, Word, Mark}
 use Rattle.ae_vread.specs.StmtForms.{is_open}
 use Rattle.ae_vread.specs.Forms.{PortForm, port_tokens, comma_tokens, ItemForm, WireItem, WireDrives, RegItem, AssignItem, AlwaysItem, item_tokens, IsItem}

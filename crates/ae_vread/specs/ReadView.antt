@@ -1,6 +1,5 @@
 -- What the readers of the code give, apart from where it lies in memory.
-use Rattle.std.specs.Prelude.{◌≡◌, ℕ, Bool, true, false, List, map, Option, Some, None, Result, Ok, Err}
-use Rattle.ae_vtoken.specs.Tokens.{TokenTree}
+use Rattle.std.specs.Prelude.{◌≡◌, Bool, true, false, map, Option, Some, None, Result, Ok, Err}
 use Rattle.ae_vtoken.specs.Scan.{views}
 use Rattle.ae_vread.specs.View.{expr_tree, stmt_tree}
 use Rattle.ae_vread.specs.Reading as r

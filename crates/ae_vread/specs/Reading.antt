@@ -1,6 +1,6 @@
 -- Reading an expression from a list of tokens, from the left, by the strengths of the operators.
-use Rattle.std.specs.Prelude.{◌≡◌, ℕ, zero, suc, ◌+◌, List, [], ◌∷◌, ◌++◌, Bool, true, false, max, length, Option, Some, None, if◌then◌else◌, nat_lt, nat_le}
-use Rattle.ae_vtoken.specs.Tokens.{TokenTree, Name, Word, Unused, Zero, Decimal, Sized, Mark}
+use Rattle.std.specs.Prelude.{ℕ, zero, suc, ◌+◌, List, [], ◌∷◌, ◌++◌, Bool, max, length, Option, Some, None, if◌then◌else◌, nat_lt, nat_le}
+use Rattle.ae_vtoken.specs.Tokens.{TokenTree, Name, Sized, Mark}
 use Rattle.ae_vread.specs.ModuleTree.{ExprTree, name, constant, place, part, index, unary, binary, choice, concat_one, concat_more}
 use Rattle.ae_vread.specs.ExprForms.{strength}
 use Rattle.ae_vread.specs.TokenTests.{◌>>=◌, after_mark, first_number}

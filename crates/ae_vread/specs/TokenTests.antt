@@ -1,5 +1,5 @@
 -- Which token stands in front of others.
-use Rattle.std.specs.Prelude.{◌≡◌, ℕ, List, [], ◌∷◌, Bool, true, false, Option, Some, None, nat_eq, if◌then◌else◌}
+use Rattle.std.specs.Prelude.{ℕ, List, [], ◌∷◌, Bool, false, Option, Some, None, nat_eq, if◌then◌else◌}
 use Rattle.ae_vtoken.specs.Tokens.{TokenTree, Name, Word, Zero, Decimal, Mark}
 use Rattle.ae_vtoken.specs.declared.token.Key.{Key}
 use Rattle.ae_vtoken.specs.declared.token.Key.TheVariants as k

@@ -1,6 +1,6 @@
 // Reading an expression from the tokens, by the strengths of the operators.
 
-ghost use Rattle.std.specs.Prelude.{◌≡◌, ◌+◌, ◌++◌, ◌≤◌, ◌<◌, [], ◌∷◌, length, max, option_map, IfSome, Option, Some};
+ghost use Rattle.std.specs.Prelude.{◌≡◌, ◌+◌, ◌++◌, ◌<◌, [], ◌∷◌, length, max, option_map, IfSome, Option, Some};
 ghost use Rattle.ae_vread.specs.View.{expr_tree};
 ghost use Rattle.ae_vread.specs.ExprForms.{strength};
 ghost use Rattle.ae_vtoken.specs.Scan.{token_view, views};

@@ -1,18 +1,17 @@
 -- Decimals: the value, and where they end.
-use Rattle.std.proofs.Common.{◌≡◌, ℕ, ◌+◌, ◌-◌, ◌*◌, ◌<◌, ◌≤◌, List, [], ◌∷◌, ◌++◌, length, Bool, true, false, Option, Some, None, refl, sym, ap, ◌∙◌, subst, arith, drop, take, get_or, min, append_assoc, append-nil, zero, suc, inl, inr}
-use Rattle.std.specs.Prelude.{IsSome, ◌==◌, bytes_eq, codes}
+use Rattle.std.proofs.Common.{◌≡◌, ℕ, ◌+◌, ◌-◌, ◌*◌, ◌<◌, ◌≤◌, List, [], ◌∷◌, ◌++◌, length, Bool, true, false, Option, Some, None, sym, ap, ◌∙◌, subst, arith, drop, take, get_or, min, append_assoc, append-nil, zero, suc}
+use Rattle.std.specs.Prelude.{IsSome, ◌==◌}
 use Rattle.std.specs.List.{list_all}
 use Rattle.std.specs.Char.{is_ascii_digit, digit_value}
 use Rattle.std.specs.Str.Parse.{digits_value}
 use Rattle.std.proofs.lemmas.Int.Digits.{digits_value_more}
-use Rattle.std.proofs.lemmas.Bool.{and_parts, cond-true, cond-false, cases_Bool, cases_lt}
+use Rattle.std.proofs.lemmas.Bool.{and_parts, cond-true, cond-false}
 use Rattle.std.specs.Prelude.{nat_le}
 use Rattle.std.proofs.Common.{length-drop}
 use Rattle.std.proofs.lemmas.Bool.{leb-true, lt-ltb, le-ltb, and_from}
 use Rattle.std.proofs.lemmas.List.{drop_more}
 use Rattle.ae_vtoken.proofs.TokenAt.{piece_cons}
-use Rattle.ae_vtoken.specs.Scan.{TokenAt}
-use Rattle.ae_vtoken.specs.Tokens.{is_word_start, number_from, decimal_of, token_of, IsLongest}
+use Rattle.ae_vtoken.specs.Tokens.{is_word_start, number_from, decimal_of, token_of}
 
 pub capped_step : (v w d : ℕ) → v ≡ min w 4294967295 → min (v * 10 + d) 4294967295 ≡ min (w * 10 + d) 4294967295
 capped_step v w d h = omega (arith, h)
@@ -43,15 +42,6 @@ pub none_some : {X : Type 0} (o : Option X) → o ≡ None → IsSome o → ⊥
 none_some None e some = cc
 none_some (Some x) e some = cc
 
--- a decimal ends where neither a digit nor a quote stands
-pub decimal_ends : (b : ℕ) (xs rest : List ℕ) → is_word_start b ≡ false → is_ascii_digit b ≡ true → list_all is_ascii_digit xs ≡ true
-    → ((c : ℕ) (more : List ℕ) → rest ≡ c ∷ more → (is_ascii_digit c ≡ false) × ((c == 39) ≡ false)) → IsLongest (b ∷ xs) rest
-decimal_ends b xs rest letter digit all ends [] after e some = refl
-decimal_ends b xs rest letter digit all ends (c ∷ more) after e some =
-    let here = ends c (more ++ after) e in
-    let none : number_from (b ∷ xs) (c ∷ more) ≡ None = cond-false _ _ _ here.0 ∙ cond-false _ _ _ here.1 in
-    absurd (none_some _ (number_token b (xs ++ c ∷ more) letter digit ∙ digits_then (b ∷ []) xs (c ∷ more) all ∙ none) some)
-
 -- the digit at a place
 pub pass_at : (q : ℕ → Bool) (xs : List ℕ) (i : ℕ) → i < length xs → list_all q xs ≡ true → q (get_or xs i 0) ≡ true
 pass_at q [] i within h = absurd (omega (arith, within))
@@ -73,22 +63,6 @@ rest_front text to ends c more e =
     let front : get_or text to 0 ∷ drop (to + 1) text ≡ c ∷ more = sym (drop_more text to 0 within) ∙ e in
     let same : get_or text to 0 ≡ c = cc in
     subst (λ c. (is_ascii_digit c ≡ false) × ((c == 39) ≡ false)) same (ends within)
-
--- a decimal stands here
-pub decimal_at : (text : List ℕ) (from to : ℕ) → from < length text → from + 1 ≤ to → to ≤ length text → is_word_start (get_or text from 0) ≡ false
-    → is_ascii_digit (get_or text from 0) ≡ true → list_all is_ascii_digit (take (to - (from + 1)) (drop (from + 1) text)) ≡ true
-    → (to < length text → (is_ascii_digit (get_or text to 0) ≡ false) × ((get_or text to 0 == 39) ≡ false))
-    → TokenAt text from to (decimal_of (take (to - from) (drop from text)))
-decimal_at text from to within past end letter digit all ends =
-    let b : ℕ = get_or text from 0 in
-    let bs : List ℕ = take (to - (from + 1)) (drop (from + 1) text) in
-    let piece = piece_cons text from to within past in
-    record {
-      past = omega (arith, past);
-      within = end;
-      token = ap token_of piece ∙ decimal_token b bs letter digit all ∙ ap (λ p. Some (decimal_of p)) (sym piece);
-      longest = subst (λ p. IsLongest p (drop to text)) (sym piece) (decimal_ends b bs (drop to text) letter digit all (rest_front text to ends));
-    }
 
 pub all_digits : (text : List ℕ) (from to : ℕ) → from < length text → from + 1 ≤ to → is_ascii_digit (get_or text from 0) ≡ true
     → list_all is_ascii_digit (take (to - (from + 1)) (drop (from + 1) text)) ≡ true → list_all is_ascii_digit (take (to - from) (drop from text)) ≡ true

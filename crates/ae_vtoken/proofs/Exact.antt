@@ -1,5 +1,5 @@
 -- What an answer says of every list of tokens and of every place.
-use Rattle.std.proofs.Common.{◌≡◌, ℕ, List, Result, Ok, Err, refl}
+use Rattle.std.proofs.Common.{ℕ, List, Result, Ok, Err, refl}
 use Rattle.std.specs.Prelude.{IfOk}
 use Rattle.ae_vtoken.specs.Tokens.{TokenTree, AreTokens, IsBadToken}
 use Rattle.ae_vtoken.specs.Scan.{FaultIs, GivesTokens, GivesPlace}

@@ -1,10 +1,10 @@
 -- Steps of a gap.
-use Rattle.std.proofs.Common.{◌≡◌, ℕ, ◌+◌, ◌<◌, ◌≤◌, List, [], ◌∷◌, length, Bool, true, false, refl, sym, ap, ◌∙◌, subst, arith, drop, get_or, nat_eq}
+use Rattle.std.proofs.Common.{◌≡◌, ℕ, ◌+◌, ◌<◌, List, ◌∷◌, length, true, false, sym, ap, ◌∙◌, subst, arith, drop, get_or, nat_eq}
 use Rattle.std.specs.Prelude.{codes}
 use Rattle.std.specs.List.{starts_with}
-use Rattle.std.proofs.lemmas.List.{drop_more, drop-drop}
+use Rattle.std.proofs.lemmas.List.{drop_more}
 use Rattle.std.proofs.lemmas.Bool.{cond-true, cond-false}
-use Rattle.ae_vtoken.specs.Tokens.{is_blank, after_gap, Between, InLine, Opened, InBlock, Closing}
+use Rattle.ae_vtoken.specs.Tokens.{is_blank, after_gap, Between, Opened, InBlock}
 
 -- at a list with a byte in front
 block_goes_list : (from : List ℕ) (b : ℕ) (bs : List ℕ) → starts_with nat_eq (b ∷ bs) (codes "*/") ≡ false

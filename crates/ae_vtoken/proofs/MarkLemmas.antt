@@ -1,13 +1,12 @@
 -- The longest sign at a place.
-use Rattle.std.proofs.Common.{◌≡◌, ℕ, ◌+◌, ◌-◌, ◌<◌, ◌≤◌, List, [], ◌∷◌, ◌++◌, length, Bool, true, false, Option, Some, None, refl, sym, ap, ◌∙◌, subst, arith, drop, take, get_or, length-drop, zero, suc, ⊎_elim, inl, inr}
-use Rattle.std.specs.Prelude.{◌&&◌, IsSome, nat_le, option_map, bytes_eq}
+use Rattle.std.proofs.Common.{◌≡◌, ℕ, ◌+◌, ◌-◌, ◌<◌, ◌≤◌, List, [], ◌∷◌, length, Bool, true, false, Some, None, refl, sym, ap, ◌∙◌, subst, arith, drop, take, get_or, length-drop, inl, inr}
+use Rattle.std.specs.Prelude.{nat_le, option_map, bytes_eq}
 use Rattle.std.specs.List.{list_all}
 use Rattle.std.specs.Char.{is_ascii_digit}
 use Rattle.std.proofs.lemmas.List.{drop_more}
 use Rattle.std.proofs.lemmas.Bool.{and_parts, cases_Bool, cond-true, cond-false, leb-true, le-leb}
 use Rattle.std.proofs.lemmas.Slice.Eq.{bytes_eq-Decides}
 use Rattle.ae_vtoken.specs.declared.token.Sign.{Sign}
-use Rattle.ae_vtoken.specs.Tokens as tok
 use Rattle.ae_vtoken.specs.Tokens.{Mark, is_word_start, token_of, look_up, IsLongest, NoToken}
 use Rattle.ae_vtoken.specs.Tables.{signs}
 use Rattle.ae_vtoken.specs.Scan.{TokenAt, sign_in_front}

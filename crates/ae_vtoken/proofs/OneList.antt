@@ -1,5 +1,5 @@
 -- A text has one list of tokens or one first bad byte, and not both.
-use Rattle.std.proofs.Common.{◌≡◌, ℕ, ◌+◌, ◌-◌, ◌<◌, ◌≤◌, List, [], ◌∷◌, ◌++◌, length, Option, Some, None, refl, sym, ap, ◌∙◌, subst, arith, append-nil, ◌⊎◌, inl, inr, drop, length-drop}
+use Rattle.std.proofs.Common.{◌≡◌, ℕ, ◌+◌, ◌-◌, List, [], ◌∷◌, ◌++◌, length, Option, Some, None, refl, sym, ap, ◌∙◌, subst, arith, append-nil, ◌⊎◌, inl, inr, drop, length-drop}
 use Rattle.std.specs.Prelude.{IsSome}
 use Rattle.ae_vtoken.specs.Tokens.{TokenTree, after_gap, Between, token_of, IsLongest, NoToken, BeginsWith, AreTokens, No_more, Then, Stuck, Here, Later, IsBadToken}
 

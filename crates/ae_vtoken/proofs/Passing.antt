@@ -12,9 +12,6 @@ drop_past [] (suc n) h = refl
 drop_past (x ∷ l) zero h = absurd (omega (arith, h))
 drop_past (x ∷ l) (suc n) h = drop_past l n (omega (arith, h))
 
-pub read_none : (text : List ℕ) → ReadTo text 0 []
-read_none text = record { within = omega arith; more = λ us h. h; stuck = λ bad h. h }
-
 begins : (text : List ℕ) (i at to : ℕ) (t : tok.TokenTree) → after_gap Between (drop i text) ≡ drop at text → TokenAt text at to t
     → BeginsWith (drop i text) (take (to - at) (drop at text)) (drop to text) t
 begins text i at to t gap here = record {

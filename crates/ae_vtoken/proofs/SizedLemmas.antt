@@ -1,12 +1,12 @@
 -- Sized constants: which pieces are none, and where one ends.
-use Rattle.std.proofs.Common.{◌≡◌, ℕ, ◌+◌, ◌<◌, ◌≤◌, List, [], ◌∷◌, ◌++◌, length, Bool, true, false, cond, Option, Some, None, refl, sym, ap, ◌∙◌, subst, arith, append_assoc, append-nil, ◌⊎◌, inl, inr, nat_eq}
-use Rattle.std.specs.Prelude.{IsSome, ◌==◌, ◌&&◌, ◌||◌, not, codes, nat_lt, filter}
+use Rattle.std.proofs.Common.{◌≡◌, ℕ, ◌+◌, ◌<◌, ◌≤◌, List, [], ◌∷◌, ◌++◌, length, Bool, true, false, cond, Some, None, refl, sym, ap, ◌∙◌, subst, arith, append_assoc, append-nil, ◌⊎◌, inl, inr, nat_eq}
+use Rattle.std.specs.Prelude.{◌==◌, ◌&&◌, ◌||◌, not, codes, nat_lt, filter}
 use Rattle.std.specs.List.{list_all, starts_with}
 use Rattle.std.specs.Char.{is_ascii_digit, digit_value}
 use Rattle.std.specs.Str.Parse.{digits_value}
 use Rattle.std.proofs.lemmas.Bool.{cond-true, cond-false, cases_Bool}
 use Rattle.std.proofs.lemmas.List.Folds.{list_all-append}
-use Rattle.ae_vtoken.specs.Tokens.{is_word_start, base_of, are_digits, constant, sized_of, number_from, decimal_of, token_of, IsLongest}
+use Rattle.ae_vtoken.specs.Tokens.{is_word_start, base_of, are_digits, constant, sized_of, decimal_of, token_of, IsLongest}
 use Rattle.ae_vtoken.specs.Scan.{NoSized}
 use Rattle.std.proofs.Common.{drop, take, get_or, length-drop, ◌-◌, suc, zero}
 use Rattle.std.proofs.lemmas.List.{drop_more}

@@ -1,12 +1,11 @@
 -- The longest token at a place: words and signs.
-use Rattle.std.proofs.Common.{◌≡◌, ℕ, ◌+◌, ◌-◌, ◌<◌, ◌≤◌, List, [], ◌∷◌, ◌++◌, length, Bool, true, false, Option, Some, None, refl, sym, ap, ◌∙◌, subst, arith, drop, take, get_or, length-drop, zero, suc}
-use Rattle.std.specs.Prelude.{◌&&◌, IsSome}
+use Rattle.std.proofs.Common.{◌≡◌, ℕ, ◌+◌, ◌-◌, ◌<◌, ◌≤◌, List, [], ◌∷◌, ◌++◌, length, true, false, Some, None, refl, sym, ap, ◌∙◌, subst, arith, drop, take, get_or, length-drop, suc}
+use Rattle.std.specs.Prelude.{IsSome}
 use Rattle.std.specs.List.{list_all}
 use Rattle.std.proofs.lemmas.List.{drop_more}
 use Rattle.std.proofs.lemmas.List.Folds.{list_all-append}
-use Rattle.std.proofs.lemmas.Bool.{and_parts, and_from, or_left, both_ways, cond-true, cond-false}
+use Rattle.std.proofs.lemmas.Bool.{and_parts, and_from, or_left, both_ways, cond-true}
 use Rattle.std.proofs.lemmas.Option.{cond_some}
-use Rattle.ae_vtoken.specs.Tokens as tok
 use Rattle.ae_vtoken.specs.Tokens.{is_word_start, is_word_byte, token_of, word_of, look_up, IsLongest}
 use Rattle.ae_vtoken.specs.Tables.{keys}
 use Rattle.ae_vtoken.specs.Scan.{TokenAt}

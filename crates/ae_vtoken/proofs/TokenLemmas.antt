@@ -1,12 +1,11 @@
 -- Where a token ends, and one token after another.
 use Rattle.std.proofs.Common.{◌≡◌, ℕ, ◌≤◌, List, [], ◌∷◌, ◌++◌, Bool, true, false, Some, None, refl, sym, ap, ◌∙◌, arith, lit≤, ⊎_elim, inl, inr, eqb, cond}
 use Rattle.std.proofs.lemmas.Bool.Decides.{nat_tests}
-use Rattle.std.specs.Prelude.{is_none, ◌||◌, not, IsSome, codes, bytes_eq, nat_lt, ◌==◌, option_map}
+use Rattle.std.specs.Prelude.{is_none, ◌||◌, not, IsSome, codes, nat_lt, ◌==◌, option_map}
 use Rattle.std.specs.List.{list_all, list_any}
 use Rattle.std.specs.Char.{is_ascii_digit, digit_value}
 use Rattle.std.proofs.lemmas.Bool.{and_parts, ltb-true, lt-ltb, ne_eqb, or_cases, cases_Bool, both_ways, eqb-true, and_from, or_left, or_right, and_left, false_from_ne_true, cond-true, cond-false, not-true}
 use Rattle.std.proofs.lemmas.Option.{cond_some}
-use Rattle.std.proofs.lemmas.Slice.Eq.{bytes_eq-Decides}
 use Rattle.ae_vtoken.specs.Tables.{signs}
 use Rattle.ae_vtoken.specs.Tokens.{TokenTree, Mark, look_up, is_blank, is_word_start, is_word_byte, after_gap, Between, base_of, are_digits, sized_of, number_from, token_of, IsLongest, AreTokens, No_more, Then}
 use Rattle.ae_vtoken.proofs.MarkLemmas.{of_key}
@@ -175,10 +174,6 @@ lone_ends b rest lone (d ∷ more) after e some =
       | None ↦ λ e some. cc
       | Some t ↦ λ e some. absurd (both_ways _ (ap not lone) (and_parts _ _ (token_together _ t e)).0)
     ] refl some
-
--- no token begins with a blank or a slash
-gap_bytes : List ℕ
-gap_bytes = codes " /" ++ 9 ∷ 10 ∷ 12 ∷ 13 ∷ []
 
 no_token_there : (bs : List ℕ) (b : ℕ) → list_any (λ c. eqb b c) (codes " /" ++ 9 ∷ 10 ∷ 12 ∷ 13 ∷ []) ≡ true → is_none (token_of (b ∷ bs)) ≡ true
 unfolding token_of signs

@@ -1,5 +1,5 @@
 -- What a pass over a text reads, and what it answers.
-use Rattle.std.specs.Prelude.{◌≡◌, ℕ, ◌+◌, ◌-◌, ◌<◌, ◌≤◌, List, ◌∷◌, ◌++◌, Bool, true, false, ◌||◌, ◌==◌, Option, Some, None, Result, Ok, Err, take, drop, length, map, get_or, nat_le, nat_lt, if◌then◌else◌}
+use Rattle.std.specs.Prelude.{◌≡◌, ℕ, ◌+◌, ◌-◌, ◌<◌, ◌≤◌, List, ◌++◌, Bool, true, false, ◌||◌, ◌==◌, Option, Some, None, Result, Ok, Err, take, drop, length, map, get_or, nat_le, nat_lt, if◌then◌else◌}
 use Rattle.std.specs.Char.{digit_value}
 use Rattle.ae_vtoken.specs.Tokens as t
 use Rattle.ae_vtoken.specs.Tokens.{TokenTree, token_of, sized_of, base_of, IsLongest, AreTokens, Stuck, IsBadToken, look_up}

@@ -2,7 +2,7 @@
 
 ghost use Rattle.std.specs.Prelude.{◌≡◌, ◌≤◌, ◌<◌, ◌+◌, ℕ, List, [], ◌∷◌, length, drop, IfSome, IfNone, nat_eq, true};
 ghost use Rattle.std.specs.List.{starts_with};
-ghost use Rattle.ae_vtoken.specs.Tokens.{is_blank, after_gap, Between, InLine, Opened, InBlock};
+ghost use Rattle.ae_vtoken.specs.Tokens.{is_blank, after_gap, Between, InLine, Opened};
 
 fn is_blank(b: u8) -> bool
     ensures { result ≡ is_blank b }

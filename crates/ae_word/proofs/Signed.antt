@@ -16,9 +16,6 @@ value-positive w a h = grind (arith, nat_tests)
 pub code-positive : (w n : ℕ) → n < 2 ^ w → code w (pos n) ≡ n
 code-positive w n h = mod-eq_of_lt h
 
-pub code-negative : (w n : ℕ) → code w (negsuc n) ≡ 2 ^ w - 1 - n % 2 ^ w
-code-negative w n = refl
-
 code-by : (b : Bool) (w a : ℕ) → b ≡ nat_lt a (2 ^ (w - 1)) → a < 2 ^ w → code w (signed_value w a) ≡ a
 code-by true w a e h =
     let low : a < 2 ^ (w - 1) = grind (arith, nat_tests) in

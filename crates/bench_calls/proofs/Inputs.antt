@@ -1,5 +1,5 @@
 -- Netlists without inputs, and the widths of their nets.
-use Rattle.std.proofs.Common.{ℕ, ◌≡◌, List, [], Option, Some, None, ap, sym, ◌∙◌, subst}
+use Rattle.std.proofs.Common.{ℕ, ◌≡◌, List, [], Some, None, ap, sym, ◌∙◌, subst}
 use Rattle.std.proofs.lemmas.Nat.{pow_pos}
 use Rattle.ae_netlist.specs.declared.cell.SizedCell.{SizedCell}
 use Rattle.ae_netlist.specs.Circuit.{IsNet, width_of}

@@ -1,6 +1,6 @@
 // The building of moves.
 
-ghost use Rattle.std.specs.Prelude.{◌≡◌, ◌∷◌, [], ◌++◌, ◌≤◌, IfOk, IfSome, OnOk};
+ghost use Rattle.std.specs.Prelude.{◌≡◌, ◌∷◌, [], ◌++◌, IfOk, IfSome, OnOk};
 ghost use Rattle.ae_word.specs.AtomTree.{unsigned_word};
 ghost use Rattle.ae_sttype.specs.StTree.{atom, sseq, st_tree, tseq};
 ghost use Rattle.ae_netlist.specs.Circuit.{Extends, IsNet};

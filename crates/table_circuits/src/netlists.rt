@@ -1,6 +1,6 @@
 // Netlists, built by the calls of `Netlist` itself.
 
-ghost use Rattle.std.specs.Prelude.{◌≡◌, ◌<◌, ◌≤◌, ◌^◌, ◌-◌, IfSome, length};
+ghost use Rattle.std.specs.Prelude.{◌≡◌, ◌<◌, ◌-◌};
 
 use crate::nets::{address, any_net, memory, net, register};
 use crate::stepping::step_all;

@@ -1,6 +1,6 @@
 // Nets that are there: what the calls require of them is tested here.
 
-ghost use Rattle.std.specs.Prelude.{◌≡◌, ◌≤◌, ◌^◌, IfSome, IsTrue};
+ghost use Rattle.std.specs.Prelude.{◌≤◌, ◌^◌, IfSome, IsTrue};
 ghost use Rattle.ae_netlist.specs.Circuit.{IsAddress, IsMemory, IsNet, IsPlain, IsRegister, width_of};
 
 use ae_clocked::width_at;

@@ -1,7 +1,7 @@
 // Answers to one line: layouts of types, cases of the layout rule, moves between layouts.
 
-ghost use Rattle.std.specs.Prelude.{◌≡◌, IfSome, IsTrue};
-ghost use Rattle.ae_sttype.specs.StTree.{st_atoms, st_tree};
+ghost use Rattle.std.specs.Prelude.{IfSome, IsTrue};
+ghost use Rattle.ae_sttype.specs.StTree.{st_tree};
 ghost use Rattle.ae_sttype.specs.Size.{IsInSize};
 ghost use Rattle.ae_rewrite.specs.Sound.{IsMoveFrom};
 

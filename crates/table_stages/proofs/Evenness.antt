@@ -1,5 +1,5 @@
 -- Bundles of nets of one width.
-use Rattle.std.proofs.Common.{ℕ, false, ◌≡◌, ◌*◌, ◌+◌, ◌%◌, ◌<◌, inl, inr, List, ◌++◌, ◌∷◌, [], length, get_or, slice_get, Some, arith, ap, ◌∙◌, refl, sym, subst}
+use Rattle.std.proofs.Common.{ℕ, false, ◌≡◌, ◌*◌, ◌+◌, ◌%◌, ◌<◌, inl, inr, List, ◌++◌, ◌∷◌, [], length, get_or, arith, ap, ◌∙◌, subst}
 use Rattle.std.proofs.lemmas.Nat.{mod_below}
 use Rattle.std.proofs.lemmas.List.{length_push}
 use Rattle.std.proofs.lemmas.Option.{get_or_from_slice_get, slice_get-get_or, slice_get_within}
@@ -15,7 +15,7 @@ use Rattle.ae_netlist.proofs.Growing.{net_later}
 use Rattle.ae_clocked.specs.Phases.{Belongs, Kept}
 use Rattle.ae_clocked.proofs.Added.{own_net}
 use Rattle.ae_ops.specs.Waves.{AreNets, HaveOwnWidths}
-use Rattle.ae_ops.specs.Blocks.{AreBundles, Part, Stream, stream_of, stream_widths}
+use Rattle.ae_ops.specs.Blocks.{AreBundles, Part, stream_of, stream_widths}
 use Rattle.ae_fold.specs.Folding.{fold_at, fold_by}
 use Rattle.ae_fold.proofs.Bundles.{elements_bundle, one_bundle}
 use Rattle.table_stages.specs.Even.{AreEven, TakesLanes}

@@ -1,3 +1,3 @@
 pub mod Evenness
-pub mod Taking
 pub mod Operands
+pub mod Taking

@@ -1,6 +1,6 @@
 // What is asked of stages.
 
-ghost use Rattle.std.specs.Prelude.{◌≡◌, ◌≤◌, ◌∷◌, [], IfOk, IfSome, OnOk};
+ghost use Rattle.std.specs.Prelude.{◌≡◌, ◌≤◌, IfOk, IfSome, OnOk};
 ghost use Rattle.ae_word.specs.AtomTree.{unsigned_word, word};
 ghost use Rattle.ae_word.specs.WordTable.{HasRange, arity_of};
 ghost use Rattle.ae_sttype.specs.StTree.{atom, sseq, st_tree, tseq};

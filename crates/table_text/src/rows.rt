@@ -1,6 +1,6 @@
 // Rows of words for the inputs of a netlist, and those of its outputs.
 
-ghost use Rattle.std.specs.Prelude.{◌≡◌, ◌≤◌, IsTrue, length};
+ghost use Rattle.std.specs.Prelude.{◌≤◌, IsTrue, length};
 ghost use Rattle.ae_netlist.specs.Rows.{AreInputs};
 
 use crate::page::Page;

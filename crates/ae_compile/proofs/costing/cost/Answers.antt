@@ -1,7 +1,7 @@
 use Rattle.std.proofs.Common.{◌≤◌, arith, rules}
 use Rattle.ae_seq.specs.ProgramTree.{program_tree}
 use Rattle.ae_rewrite.specs.StProgramTree.{st_func_trees}
-use Rattle.ae_compile.specs.Costing.{IsCostFault, IsKnown, load_limit, main_costs}
+use Rattle.ae_compile.specs.Costing.{IsCostFault, main_costs}
 use Rattle.ae_compile.proofs.Large.{cost_fault, load_within}
 use Rattle.ae_compile.proofs.Mains.{parts_of}
 use Rattle.ae_compile.proofs.costing.cost.Goals as goal

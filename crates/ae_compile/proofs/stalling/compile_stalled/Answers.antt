@@ -1,4 +1,4 @@
-use Rattle.std.proofs.Common.{◌≡◌, ◌∙◌, ◌≤◌, ℕ, ap, length, map, slice_get, arith, sym}
+use Rattle.std.proofs.Common.{◌∙◌, ap, length, map, slice_get, arith, sym}
 use Rattle.std.proofs.lemmas.List.{length-map}
 use Rattle.ae_seq.specs.ProgramTree.{program_tree}
 use Rattle.ae_rewrite.specs.StProgramTree.{st_func_trees}

@@ -9,7 +9,6 @@ use Rattle.ae_rewrite.specs.StProgramTree.{st_func_trees}
 use Rattle.ae_rewrite.proofs.Forms.{few-nodes}
 use Rattle.ae_delay.specs.declared.own.OwnCosts.{OwnCosts}
 use Rattle.ae_rewrite.specs.Interface.{main_of}
-use Rattle.ae_fuse.specs.Fused.{costs_in}
 use Rattle.ae_compile.specs.Costing.{AreCosts, load_limit, whole_costs}
 use Rattle.ae_compile.specs.LineNotes.{AllNamed}
 use Rattle.ae_jobs.specs.CostTables.{cost_table, fused_table, table_text}

@@ -1,4 +1,4 @@
-use Rattle.std.proofs.Common.{◌∙◌, arith}
+use Rattle.std.proofs.Common.{◌∙◌}
 use Rattle.ae_sttype.specs.StTree.{st_tree}
 use Rattle.ae_jobs.proofs.Columns.{columns_are}
 use Rattle.ae_jobs.proofs.run_job.columns.Goals as goal

@@ -1,5 +1,4 @@
 use Rattle.ae_seq.specs.ProgramTree.{program_tree}
-use Rattle.ae_jobs.specs.declared.run_job.Form.TheVariants.{Dump, Lines}
 use Rattle.ae_jobs.specs.RunTexts.{word_count}
 use Rattle.ae_play.specs.Lines.{clock_count}
 use Rattle.ae_jobs.proofs.Clocks.{few_clocks}

@@ -1,11 +1,10 @@
-use Rattle.std.proofs.Common.{ℕ, ◌≤◌, arith, subst}
+use Rattle.std.proofs.Common.{ℕ, subst}
 use Rattle.std.specs.Prelude.{string_bytes}
 use Rattle.ae_seq.specs.ProgramTree.{program_tree}
 use Rattle.ae_rewrite.specs.StProgramTree.{st_func_trees}
 use Rattle.ae_stalled.specs.Laws.{stall_limit}
 use Rattle.ae_compile.specs.Passes.{CostedView}
 use Rattle.ae_compile.specs.Building.{IsBuiltStalled, IsStalledText}
-use Rattle.ae_compile.specs.Costing.{main_costs}
 use Rattle.ae_jobs.proofs.Refusals.{answered_refused}
 use Rattle.ae_jobs.proofs.stall_job.stall.Goals as goal
 

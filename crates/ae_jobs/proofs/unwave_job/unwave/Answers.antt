@@ -1,10 +1,8 @@
-use Rattle.std.proofs.Common.{rules, ◌≡◌, ◌<◌, ◌≤◌, ℕ, List}
+use Rattle.std.proofs.Common.{rules, ◌≡◌, ℕ}
 use Rattle.std.specs.Prelude.{string_bytes}
 use Rattle.std.proofs.lemmas.Result.{IfOk-weaker}
-use Rattle.ae_vcd.specs.Waves.{WaveTree, size_limit, wave_tree}
+use Rattle.ae_vcd.specs.Waves.{WaveTree, wave_tree}
 use Rattle.ae_vcd.specs.TextWords.{text_words}
-use Rattle.ae_vcd.specs.Reads.{size_of_wave}
-use Rattle.ae_vcd.specs.Readings.{IsVcd}
 use Rattle.ae_jobs.specs.declared.reply.Reply.{Reply}
 use Rattle.ae_jobs.specs.declared.status.Status.TheVariants.{BadWave, LongRun}
 use Rattle.ae_jobs.specs.Refusals.{refusal_line}

@@ -1,15 +1,13 @@
-use Rattle.std.proofs.Common.{◌≡◌, ◌+◌, ◌*◌, ◌≤◌, ◌++◌, ◌∙◌, ℕ, List, length, map, arith, ap, sym, subst}
-use Rattle.std.specs.Prelude.{string_bytes}
+use Rattle.std.proofs.Common.{◌≡◌, ◌+◌, ◌*◌, ◌≤◌, ◌∙◌, ℕ, length, map, ap, sym, subst}
 use Rattle.ae_seq.specs.ProgramTree.{program_tree}
 use Rattle.ae_rewrite.specs.StProgramTree.{st_func_trees}
 use Rattle.ae_vread.specs.ModuleTree.{ModuleTree, NetTree}
 use Rattle.ae_verilog.specs.Notes.{lines_of, note_tree, noted_module}
 use Rattle.ae_verilog.specs.PortNets.{port_nets}
 use Rattle.ae_verilog.specs.ReportLines.{report_tree}
-use Rattle.ae_vcd.specs.Waves.{IsFormedWave, WaveTree, wave_tree}
-use Rattle.ae_jobs.specs.declared.run_job.Form.TheVariants.{Dump}
-use Rattle.ae_jobs.specs.RunTexts.{run_limit, word_count}
-use Rattle.ae_jobs.specs.WaveTexts.{run_wave, variables_of}
+use Rattle.ae_vcd.specs.Waves.{IsFormedWave}
+use Rattle.ae_jobs.specs.RunTexts.{run_limit}
+use Rattle.ae_jobs.specs.WaveTexts.{variables_of}
 use Rattle.ae_jobs.proofs.WaveForms.{wave_formed}
 use Rattle.ae_jobs.proofs.WaveShown.{counted}
 use Rattle.ae_jobs.proofs.wave_text.run_wave.Goals as goal

@@ -1,4 +1,4 @@
-use Rattle.std.proofs.Common.{◌≡◌, ◌+◌, ◌^◌, ◌<◌, ◌∙◌, ℕ, List, length, map, ap, sym, subst}
+use Rattle.std.proofs.Common.{◌≡◌, ◌^◌, ◌<◌, ◌∙◌, ℕ, List, length, map, ap, sym, subst}
 use Rattle.std.specs.Prelude.{string_bytes}
 use Rattle.std.proofs.lemmas.List.{length-map}
 use Rattle.ae_seq.specs.ProgramTree.{program_tree}
@@ -9,10 +9,9 @@ use Rattle.ae_vread.specs.Spells.{Spells}
 use Rattle.ae_verilog.specs.Notes.{note_tree, noted_module}
 use Rattle.ae_verilog.specs.ReportLines.{report_tree}
 use Rattle.ae_play.specs.Lines.{clock_count}
-use Rattle.ae_vcd.specs.Waves.{IsFormedWave, WaveTree, wave_tree}
+use Rattle.ae_vcd.specs.Waves.{IsFormedWave, wave_tree}
 use Rattle.ae_vcd.specs.WaveText.{commented, wave_text}
 use Rattle.ae_jobs.specs.declared.run_job.Form.TheVariants.{Dump}
-use Rattle.ae_jobs.specs.EvalRows.{AreBlocks}
 use Rattle.ae_jobs.specs.Inputs.{blocks_of}
 use Rattle.ae_jobs.specs.RunTexts.{word_count}
 use Rattle.ae_jobs.specs.WaveTexts.{run_wave}

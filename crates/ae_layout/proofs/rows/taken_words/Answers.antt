@@ -1,4 +1,4 @@
-use Rattle.std.proofs.Common.{arith, ◌≤◌, ◌*◌, ap, ◌∙◌}
+use Rattle.std.proofs.Common.{arith, ◌*◌, ap}
 use Rattle.ae_sttype.specs.StTree.{st_tree, lanes}
 use Rattle.ae_layout.proofs.PieceLemmas.{columns_below, taken_piece, holds_taken}
 use Rattle.ae_layout.proofs.rows.taken_words.Goals as goal

@@ -32,7 +32,8 @@ pub loop-word-preserved : goal.loop-word-preserved
 loop-word-preserved c =
     lane_more _ _ _ _ _ _ (In c.args.param c.args.lane) (map (λ (k : WordKind). k.width) (atom_kinds (atom_tree c.args.atom.now))) c.loop-word.word
     c.word_width.result c.in_ok-net.net
-    (slice_get-map (λ (k : WordKind). k.width) (atom_kinds (atom_tree c.args.atom.now)) c.loop-word.word ∙ c.word_width.ensures) c.in_ok-net.ensures.added c.in_ok-net.ensures.net c.in_ok-push.ensures.items c.loop-word.invariant
+    (slice_get-map (λ (k : WordKind). k.width) (atom_kinds (atom_tree c.args.atom.now)) c.loop-word.word ∙ c.word_width.ensures) c.in_ok-net.ensures.added
+    c.in_ok-net.ensures.net c.in_ok-push.ensures.items c.loop-word.invariant
 
 pub returns : goal.returns
 returns c =

@@ -8,7 +8,7 @@ use Rattle.ae_ports.specs.Ports.{lane_ports}
 use Rattle.ae_lower.proofs.Inputs.{inputs_limit, inputs_long, lanes_more, length-lane_ports}
 use Rattle.ae_lower.proofs.Outputs.{lane_inside}
 use Rattle.ae_lower.proofs.ports.param_inputs.Goals as goal
-use Rattle.ae_fold.proofs.Kinding.{sized_atom}
+use Rattle.ae_sttype.proofs.Bounds.{sized_atom}
 use Rattle.ae_ports.proofs.Columns.{element_columns as widths_long}
 
 pub lane_inputs-requires-clause-in_size : goal.lane_inputs-requires-clause-in_size

@@ -1,9 +1,8 @@
-use Rattle.std.proofs.Common.{◌≡◌, ◌∙◌, ◌<◌, length, Some, slice_get, option_map, arith, ap, sym, subst, IsTrue}
-use Rattle.ae_word.specs.AtomTree.{WordKind, AtomTree, atom_in_size, atom_kinds, atom_tree}
+use Rattle.std.proofs.Common.{◌∙◌, ◌<◌, length, slice_get, option_map, arith, ap, sym, subst, IsTrue}
+use Rattle.ae_word.specs.AtomTree.{WordKind, AtomTree, atom_in_size, atom_kinds}
 use Rattle.ae_word.proofs.Sizes.{length-atom_kinds}
 use Rattle.ae_sttype.specs.StTree.{element_atom, st_tree}
-use Rattle.ae_sttype.proofs.Bounds.{element_words_pos}
-use Rattle.ae_fold.proofs.Kinding.{sized_atom}
+use Rattle.ae_sttype.proofs.Bounds.{element_words_pos, sized_atom}
 use Rattle.ae_lower.proofs.Arranged.{first_is}
 use Rattle.ae_lower.proofs.stages.first_width.Goals as goal
 

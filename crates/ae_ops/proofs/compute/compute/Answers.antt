@@ -6,7 +6,7 @@ use Rattle.ae_netlist.specs.Circuit.{IsNet}
 use Rattle.ae_clocked.proofs.Adding.{adds_most}
 use Rattle.ae_netlist.proofs.Growing.{main_is}
 use Rattle.ae_clocked.proofs.Added.{result_at}
-use Rattle.ae_ops.proofs.Computing.{cast_words, most_of, operation_of, pair_operands, passed_with, refused_with, result_high, result_low, sar_words, unchanged_of}
+use Rattle.ae_ops.proofs.Computing.{cast_words, most_of, operation_of, pair_operands, passed_with, refused_with, sar_words, unchanged_of}
 use Rattle.ae_ops.proofs.compute.compute.Goals as goal
 
 pub operate-requires : goal.operate-requires

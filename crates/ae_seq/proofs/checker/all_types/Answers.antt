@@ -1,13 +1,12 @@
-use Rattle.std.proofs.Common.{◌≡◌, ◌∙◌, ◌+◌, ◌++◌, sym, ap, refl, arith, length, [], ◌∷◌, List, drop, None, append_assoc, length-append, append-nil, subst, Vec, Global, IsTrue}
+use Rattle.std.proofs.Common.{◌≡◌, ◌∙◌, ◌+◌, sym, ap, refl, arith, [], ◌∷◌, List, drop, None, append_assoc, length-append, append-nil, subst, Vec, Global}
 use Rattle.ae_seqtype.specs.declared.seq_type.SeqType.{SeqType}
-use Rattle.std.proofs.lemmas.List.{map-append, length-map, drop_all}
+use Rattle.std.proofs.lemmas.List.{drop_all}
 use Rattle.std.proofs.lemmas.Result.{err_from_is_err_and}
-use Rattle.ae_seqtype.specs.SeqTree.{SeqTree}
-use Rattle.ae_seq.specs.Accepted.{AllSized, IsCausedBy}
+use Rattle.ae_seq.specs.Accepted.{IsCausedBy}
 use Rattle.ae_seq.specs.ProgramTree.{func_tree}
-use Rattle.ae_seq.specs.Signatures.{HaveTypes, signatures_by}
+use Rattle.ae_seq.specs.Signatures.{signatures_by}
 use Rattle.ae_seq.specs.Trees.{func_trees, type_trees, types_of}
-use Rattle.ae_seq.specs.Typing.{judged, judged_func, refused, item_types}
+use Rattle.ae_seq.specs.Typing.{judged_func, refused}
 use Rattle.ae_seq.proofs.Types.{slice_get-view}
 use Rattle.ae_seq.proofs.Judging.{judged-step, drop-read, signatures_by-nil, IsCausedBy-first, AllSized-push}
 use Rattle.ae_seq.proofs.checker.all_types.Goals as goal

@@ -1,4 +1,4 @@
-use Rattle.std.proofs.Common.{◌≡◌, ◌∙◌, sym, ap}
+use Rattle.std.proofs.Common.{◌∙◌, sym, ap}
 use Rattle.ae_seq.specs.Trees.{lent_types, option_lent_types, type_trees}
 use Rattle.ae_seq.proofs.Types.{types_at-sized}
 use Rattle.ae_seq.proofs.checker.node_type.Goals as goal

@@ -1,4 +1,4 @@
-use Rattle.std.proofs.Common.{◌≡◌, ◌∙◌, sym, ap, [], ◌∷◌}
+use Rattle.std.proofs.Common.{◌∙◌, sym, ap, [], ◌∷◌}
 use Rattle.std.proofs.lemmas.List.{map-append}
 use Rattle.ae_seq.specs.Trees.{type_trees, lent, lent_types, option_lent}
 use Rattle.ae_seq.proofs.Types.{types_at-more, types_at-none}

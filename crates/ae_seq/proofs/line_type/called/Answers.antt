@@ -1,4 +1,4 @@
-use Rattle.std.proofs.Common.{◌≡◌, ◌∙◌, sym, ap, inl, inr, List, length, get_or, slice_get, Some, false, true, [], refl}
+use Rattle.std.proofs.Common.{inl, inr, false, true, [], refl}
 use Rattle.std.proofs.lemmas.List.{length-map}
 use Rattle.std.proofs.lemmas.Option.{slice_get-get_or}
 use Rattle.ae_seq.specs.ProgramTree.{func_tree}

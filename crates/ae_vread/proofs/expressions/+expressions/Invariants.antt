@@ -1,4 +1,4 @@
-use Rattle.std.proofs.Common.{◌≡◌, ◌+◌, ◌-◌, ◌*◌, ◌≤◌, [], length}
+use Rattle.std.proofs.Common.{◌≡◌, ◌+◌, ◌-◌, ◌*◌, [], length}
 use Rattle.ae_vread.specs.Reading.{expression, joined_at, operators, parts, parts_of}
 use Rattle.ae_vtoken.specs.Scan.{views}
 use Rattle.ae_vread.specs.ReadView.{found_view, parts_view}

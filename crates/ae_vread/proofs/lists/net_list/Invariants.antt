@@ -1,7 +1,7 @@
 use Rattle.std.proofs.Common.{◌≡◌, ◌-◌, length}
 use Rattle.ae_vtoken.specs.Scan.{views}
-use Rattle.ae_vread.specs.ItemReading.{entries, net_by, comma_net, with_comma, one_reg, one_drive, net_list, reg_list, drive_list}
-use Rattle.ae_vread.specs.ListView.{nets_view, drives_view}
+use Rattle.ae_vread.specs.ItemReading.{entries, net_by, comma_net, net_list}
+use Rattle.ae_vread.specs.ListView.{nets_view}
 use Rattle.ae_vread.proofs.lists.net_list.Given as goal
 
 -- what is left to do is what there was to do

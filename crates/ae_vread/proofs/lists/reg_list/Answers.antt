@@ -1,4 +1,4 @@
-use Rattle.std.proofs.Common.{◌<◌, ◌≤◌, ◌∙◌, ap, refl, length, Some, arith}
+use Rattle.std.proofs.Common.{◌<◌, ◌≤◌, ◌∙◌, ap, length, Some, arith}
 use Rattle.std.specs.Prelude.{option_map}
 use Rattle.ae_vtoken.specs.Scan.{views}
 use Rattle.ae_vread.specs.ItemReading.{one_reg, with_comma}

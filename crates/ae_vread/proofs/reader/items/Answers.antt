@@ -1,4 +1,4 @@
-use Rattle.std.proofs.Common.{◌∙◌, ◌≡◌, ap, sym, arith}
+use Rattle.std.proofs.Common.{◌∙◌, ap, sym, arith}
 use Rattle.std.specs.Prelude.{option_map}
 use Rattle.ae_vread.specs.ItemView.{item_view, held_view}
 use Rattle.ae_vread.proofs.ItemTurns.{items_first, item_stop, item_next, item_out}

@@ -1,5 +1,5 @@
-use Rattle.std.proofs.Common.{◌≡◌, ◌≤◌, ◌<◌, ◌+◌, ◌-◌, arith, sym, ap, ◌∙◌, refl, get_or, length}
-use Rattle.std.specs.Char.{is_ascii_digit, digit_value}
+use Rattle.std.proofs.Common.{◌-◌, ◌∙◌, get_or}
+use Rattle.std.specs.Char.{is_ascii_digit}
 use Rattle.ae_vtoken.proofs.DecimalLemmas.{capped_more, digit_is, pass_at}
 use Rattle.ae_vtoken.proofs.decimals.capped.Goals as goal
 

@@ -1,4 +1,4 @@
-use Rattle.std.proofs.Common.{◌≡◌, ◌≤◌, ◌<◌, ◌+◌, arith, sym, ap, ◌∙◌, refl}
+use Rattle.std.proofs.Common.{arith, sym, ◌∙◌}
 use Rattle.std.specs.Char.{is_ascii_digit}
 use Rattle.ae_vtoken.proofs.Spans.{span_more}
 use Rattle.ae_vtoken.proofs.decimals.digits_end.Goals as goal

@@ -1,4 +1,4 @@
-use Rattle.std.proofs.Common.{rules, ◌≡◌, ◌≤◌, ◌<◌, ◌+◌, ℕ, List, length, drop, arith, sym, ◌∙◌}
+use Rattle.std.proofs.Common.{arith, sym, ◌∙◌}
 use Rattle.ae_vtoken.proofs.GapLemmas.{block_goes, block_ends, block_opens}
 use Rattle.ae_vtoken.proofs.gaps.block_end.Goals as goal
 

@@ -1,5 +1,5 @@
 use Rattle.std.proofs.Common.{length, ◌-◌, ◌≡◌, ◌≤◌, ◌<◌, ◌+◌, ℕ, List, drop}
-use Rattle.ae_vtoken.specs.Tokens.{after_gap, Between, InLine, Opened, InBlock}
+use Rattle.ae_vtoken.specs.Tokens.{after_gap, Opened, InBlock}
 use Rattle.ae_vtoken.proofs.gaps.block_end.Given as goal
 
 -- the comment goes on at i

@@ -1,5 +1,5 @@
-use Rattle.std.proofs.Common.{length, ◌-◌, ◌≡◌, ◌≤◌, ◌<◌, ◌+◌, ℕ, List, drop}
-use Rattle.ae_vtoken.specs.Tokens.{after_gap, Between, InLine, Opened, InBlock}
+use Rattle.std.proofs.Common.{length, ◌-◌, ◌≡◌, ◌≤◌, drop}
+use Rattle.ae_vtoken.specs.Tokens.{after_gap, Between}
 use Rattle.ae_vtoken.proofs.gaps.gap_end.Given as goal
 
 -- the gap goes on at i

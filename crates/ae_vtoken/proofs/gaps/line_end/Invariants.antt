@@ -1,5 +1,5 @@
-use Rattle.std.proofs.Common.{length, ◌-◌, ◌≡◌, ◌≤◌, ◌<◌, ◌+◌, ℕ, List, drop}
-use Rattle.ae_vtoken.specs.Tokens.{after_gap, Between, InLine, Opened, InBlock}
+use Rattle.std.proofs.Common.{length, ◌-◌, ◌≡◌, ◌≤◌, drop}
+use Rattle.ae_vtoken.specs.Tokens.{after_gap, InLine}
 use Rattle.ae_vtoken.proofs.gaps.line_end.Given as goal
 
 -- the line goes on at i

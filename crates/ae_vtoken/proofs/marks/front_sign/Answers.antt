@@ -1,6 +1,5 @@
-use Rattle.std.proofs.Common.{◌≡◌, ◌≤◌, ◌<◌, ◌+◌, ◌-◌, length, take, drop, arith, sym, ap, ◌∙◌, refl, length-drop}
+use Rattle.std.proofs.Common.{◌≡◌, ◌≤◌, ◌+◌, ◌-◌, length, take, drop, arith, sym, ap, ◌∙◌, length-drop}
 use Rattle.std.proofs.lemmas.Bool.{cond-true, le-leb}
-use Rattle.std.specs.Prelude.{nat_le}
 use Rattle.ae_vtoken.specs.Tokens.{look_up}
 use Rattle.ae_vtoken.specs.Tables.{signs}
 use Rattle.ae_vtoken.specs.Scan.{sign_in_front}

@@ -1,4 +1,4 @@
-use Rattle.std.proofs.Common.{◌≡◌, ◌≤◌, ◌<◌, length, arith, sym, ap, ◌∙◌, subst, refl}
+use Rattle.std.proofs.Common.{arith, sym, ap, ◌∙◌, subst}
 use Rattle.ae_vtoken.specs.Scan.{views, token_view, ReadTo}
 use Rattle.ae_vtoken.proofs.Passing.{read_more, read_all, read_stuck, views_more}
 use Rattle.ae_vtoken.proofs.scan.scan.Goals as goal

@@ -1,4 +1,4 @@
-use Rattle.std.proofs.Common.{◌≡◌, ◌≤◌, ◌<◌, ◌+◌, arith, sym, ap, ◌∙◌, refl, subst}
+use Rattle.std.proofs.Common.{sym, ◌∙◌, subst}
 use Rattle.ae_vtoken.specs.Scan.{TokenAt}
 use Rattle.ae_vtoken.proofs.TokenAt.{word_at, all_words}
 use Rattle.ae_vtoken.proofs.DecimalLemmas.{all_digits}

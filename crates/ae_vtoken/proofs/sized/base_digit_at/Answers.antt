@@ -1,4 +1,4 @@
-use Rattle.std.proofs.Common.{◌≡◌, ◌≤◌, ◌<◌, ◌+◌, true, false, get_or, length, arith, subst, sym, ap, ◌∙◌, nat_lt}
+use Rattle.std.proofs.Common.{true, false, arith, sym, ◌∙◌}
 use Rattle.std.specs.Char.{digit_value}
 use Rattle.ae_vtoken.proofs.SizedLemmas.{no_sized_short, no_sized_at, below_base}
 use Rattle.ae_vtoken.proofs.sized.base_digit_at.Goals as goal

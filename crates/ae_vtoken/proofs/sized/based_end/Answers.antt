@@ -1,4 +1,4 @@
-use Rattle.std.proofs.Common.{◌≡◌, ◌≤◌, ◌<◌, ◌+◌, arith, sym, ap, ◌∙◌, refl}
+use Rattle.std.proofs.Common.{arith, sym, ◌∙◌}
 use Rattle.ae_vtoken.specs.Scan.{is_based}
 use Rattle.ae_vtoken.proofs.Spans.{span_more}
 use Rattle.ae_vtoken.proofs.sized.based_end.Goals as goal

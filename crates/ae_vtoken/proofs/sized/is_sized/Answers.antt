@@ -1,4 +1,4 @@
-use Rattle.std.proofs.Common.{◌≡◌, ◌+◌, inr, drop, arith, ap, subst, true, get_or, nat_lt}
+use Rattle.std.proofs.Common.{◌≡◌, ◌+◌, inr, drop, arith, subst, true, get_or, nat_lt}
 use Rattle.std.specs.Char.{digit_value}
 use Rattle.std.proofs.lemmas.Bool.{ne_eqb}
 use Rattle.ae_vtoken.specs.Tokens.{base_of}

@@ -1,4 +1,4 @@
-use Rattle.std.proofs.Common.{◌≡◌, ◌≤◌, ◌<◌, ◌+◌, arith, sym, ap, ◌∙◌, refl}
+use Rattle.std.proofs.Common.{arith, sym, ◌∙◌}
 use Rattle.ae_vtoken.proofs.Spans.{word_more}
 use Rattle.ae_vtoken.proofs.words.word_end.Goals as goal
 

@@ -1,4 +1,4 @@
-use Rattle.std.proofs.Common.{length, ◌-◌, ◌≡◌, ◌≤◌, ◌<◌, ◌+◌, ℕ, List, drop, take, true}
+use Rattle.std.proofs.Common.{length, ◌-◌, ◌≡◌, ◌≤◌, drop, take, true}
 use Rattle.std.specs.List.{list_all}
 use Rattle.ae_vtoken.specs.Tokens.{is_word_byte}
 use Rattle.ae_vtoken.proofs.words.word_end.Given as goal

@@ -1,4 +1,4 @@
-use Rattle.std.proofs.Common.{◌≡◌, ap, ◌∙◌, subst, sym, List, []}
+use Rattle.std.proofs.Common.{subst, sym, List, []}
 use Rattle.ae_netlist.specs.declared.cell.SizedCell.{SizedCell}
 use Rattle.ae_netlist.specs.Rows.{AreInputs}
 use Rattle.bench_calls.proofs.Inputs.{no_inputs}

@@ -1,4 +1,4 @@
-use Rattle.std.proofs.Common.{◌≡◌, ◌∙◌, sym, ap, subst, is_some, [], List, Vec, Global}
+use Rattle.std.proofs.Common.{◌≡◌, ◌∙◌, ap, subst, is_some, [], List, Vec, Global}
 use Rattle.ae_seqtype.specs.declared.seq_type.SeqType.{SeqType}
 use Rattle.ae_seq.specs.Accepted.{is_item}
 use Rattle.ae_seq.specs.ProgramTree.{program_tree}

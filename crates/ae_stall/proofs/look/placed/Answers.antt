@@ -1,1 +1,0 @@
--- Every net but the first stands so many places further on.
