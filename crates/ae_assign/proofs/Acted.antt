@@ -8,7 +8,7 @@ use Rattle.ae_vread.specs.ModuleTree.{ExprTree, StmtTree, when, either, block_en
 use Rattle.ae_judge.specs.Names.{stmt_targets}
 use Rattle.ae_judge.specs.Weight.{expr_weight, stmt_weight}
 use Rattle.ae_runs.specs.Values.{own_value}
-use Rattle.ae_gates.specs.Cells.{Grows, IsWord}
+use Rattle.ae_gates.specs.Cells.{GrowsByGates, IsWord}
 use Rattle.ae_runs.specs.Named.{AreNamed, read}
 use Rattle.ae_assign.specs.Edges.{Acts, FitNexts, IsActed, IsGuard, OthersKeep}
 use Rattle.ae_assign.specs.declared.statements.Next.{Next}
@@ -19,7 +19,7 @@ use Rattle.ae_assign.proofs.EdgeBlocks.{IsActing, acting_done}
 
 module _ (from : ℕ) (ns : List NetTree) (ys : List (Option NetId)) (guard : Option NetId) where
   -- a call that says so clause by clause
-  pub acted : {A E : Type 0} (r : Result A E) (old new : Circuit) (before after : List Next) (s : StmtTree) → OnOk r (Grows old new)
+  pub acted : {A E : Type 0} (r : Result A E) (old new : Circuit) (before after : List Next) (s : StmtTree) → OnOk r (GrowsByGates old new)
       → OnOk r (length old.cells ≤ length new.cells) → OnOk r (length new.cells ≤ length old.cells + 8 * stmt_weight 0 s)
       → OnOk r (FitNexts ns after new.cells) → OnOk r (OthersKeep ns before after (stmt_targets s))
       → OnOk r (Acts from ns ys guard old.cells new.cells before after s) → OnOk r (IsActed from ns ys guard old new before after s)
@@ -41,8 +41,8 @@ module _ (from : ℕ) (ns : List NetTree) (ys : List (Option NetId)) (guard : Op
 
   -- one branch, reached where the test is not 0
   pub when_acted : (m0 m1 m2 m3 : Circuit) (before after : List Next) (test : ExprTree) (s : StmtTree) (none first : NetId)
-      → Grows m0 m1 → length m0.cells ≤ length m1.cells → length m1.cells ≤ length m0.cells + 8 * expr_weight test + 3
-      → Grows m1 m2 → length m1.cells ≤ length m2.cells → length m2.cells ≤ length m1.cells + 2
+      → GrowsByGates m0 m1 → length m0.cells ≤ length m1.cells → length m1.cells ≤ length m0.cells + 8 * expr_weight test + 3
+      → GrowsByGates m1 m2 → length m1.cells ≤ length m2.cells → length m2.cells ≤ length m1.cells + 2
       → ((at : List ℕ → ℕ) → AreNamed ns ys at → IsWord from m1.cells none.0 1 (λ run t. bit (own_value ns (read at run t) test == 0)))
       → ((g b : List Clock → ℕ → Bool) → IsGuard from m1.cells guard g → IsWord from m1.cells none.0 1 (λ run t. bit (b run t))
       → IsWord from m2.cells first.0 1 (λ run t. bit (g run t && not (b run t))))
@@ -62,9 +62,9 @@ module _ (from : ℕ) (ns : List NetTree) (ys : List (Option NetId)) (guard : Op
 
   -- two branches
   pub either_acted : (m0 m1 m2 m3 m4 m5 : Circuit) (before mid after : List Next) (test : ExprTree) (s u : StmtTree) (none first second : NetId)
-      → Grows m0 m1 → length m0.cells ≤ length m1.cells → length m1.cells ≤ length m0.cells + 8 * expr_weight test + 3
-      → Grows m1 m2 → length m1.cells ≤ length m2.cells → length m2.cells ≤ length m1.cells + 2
-      → Grows m2 m3 → length m2.cells ≤ length m3.cells → length m3.cells ≤ length m2.cells + 1
+      → GrowsByGates m0 m1 → length m0.cells ≤ length m1.cells → length m1.cells ≤ length m0.cells + 8 * expr_weight test + 3
+      → GrowsByGates m1 m2 → length m1.cells ≤ length m2.cells → length m2.cells ≤ length m1.cells + 2
+      → GrowsByGates m2 m3 → length m2.cells ≤ length m3.cells → length m3.cells ≤ length m2.cells + 1
       → ((at : List ℕ → ℕ) → AreNamed ns ys at → IsWord from m1.cells none.0 1 (λ run t. bit (own_value ns (read at run t) test == 0)))
       → ((g b : List Clock → ℕ → Bool) → IsGuard from m1.cells guard g → IsWord from m1.cells none.0 1 (λ run t. bit (b run t))
       → IsWord from m2.cells first.0 1 (λ run t. bit (g run t && not (b run t))))

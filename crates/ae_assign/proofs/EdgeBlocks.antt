@@ -6,7 +6,7 @@ use Rattle.ae_netlist.specs.Runs.{Clock, InEveryRunFrom}
 use Rattle.ae_vread.specs.ModuleTree.{StmtTree, block_end, block_more, NetTree}
 use Rattle.ae_judge.specs.Names.{Among, stmt_targets}
 use Rattle.ae_judge.specs.Weight.{stmt_weight}
-use Rattle.ae_gates.specs.Cells.{Grows}
+use Rattle.ae_gates.specs.Cells.{GrowsByGates}
 use Rattle.ae_runs.specs.Named.{AreNamed, read}
 use Rattle.ae_runs.specs.Guards.{guarded}
 use Rattle.ae_assign.specs.Edges.{IsSoundStmt, IsReadyStmt, IsGuard, FitNexts, AreFresh, OthersKeep, next_read, Acts}
@@ -19,7 +19,7 @@ use Rattle.ae_assign.proofs.EdgeFits.{fresh_left, fresh_right}
 -- of the statements of a block so many are done, and the rest is not
 pub record IsActing (from : ℕ) (ns : List NetTree) (ys : List (Option NetId)) (guard : Option NetId) (old new : Circuit) (before after : List Next)
     (whole rest : StmtTree) : Type 0 where
-  pub grows : Grows old new
+  pub grows : GrowsByGates old new
   pub more : length old.cells ≤ length new.cells
   pub few : length new.cells + 8 * stmt_weight 0 rest ≤ length old.cells + 8 * stmt_weight 0 whole
   pub nexts : FitNexts ns after new.cells
@@ -49,7 +49,7 @@ module _ (from : ℕ) (ns : List NetTree) (ys : List (Option NetId)) (guard : Op
   }
 
   pub acting_step : (mid new : Circuit) (after later : List Next) (s rest : StmtTree) → IsActing from ns ys guard old mid before after whole (block_more s rest)
-      → Grows mid new → length mid.cells ≤ length new.cells → length new.cells ≤ length mid.cells + 8 * stmt_weight 0 s → FitNexts ns later new.cells
+      → GrowsByGates mid new → length mid.cells ≤ length new.cells → length new.cells ≤ length mid.cells + 8 * stmt_weight 0 s → FitNexts ns later new.cells
       → OthersKeep ns after later (stmt_targets s) → Acts from ns ys guard mid.cells new.cells after later s
       → IsActing from ns ys guard old new before later whole rest
   acting_step mid new after later s rest h grows more few nexts others acts =

@@ -15,7 +15,7 @@ use Rattle.ae_judge.specs.Names.{Among, is_memory_name, is_register_name, is_reg
 use Rattle.ae_judge.specs.Widths.{declared_width}
 use Rattle.ae_judge.specs.Weight.{stmt_weight}
 use Rattle.ae_judge.specs.Faults.{IsRepeated}
-use Rattle.ae_gates.specs.Cells.{Grows}
+use Rattle.ae_gates.specs.Cells.{GrowsByGates}
 use Rattle.ae_runs.specs.Named.{AreNets, IsNamed, place_of}
 use Rattle.ae_assign.specs.Edges.{FitsNext, FitNexts, AreFresh, OthersKeep, IsWordNext, IsSoFar, next_at, next_word, next_store}
 use Rattle.ae_assign.specs.declared.statements.Next.{Next}
@@ -26,7 +26,7 @@ use Rattle.ae_order.proofs.SoundLaws.{named_width}
 use Rattle.ae_gates.proofs.Words.{net_grows}
 use Rattle.ae_express.proofs.NetLaws.{name_net, nets_grow}
 
-pub address_grows : (a b : Circuit) (at depth : ℕ) → Grows a b → IsAddress a.cells at depth → IsAddress b.cells at depth
+pub address_grows : (a b : Circuit) (at depth : ℕ) → GrowsByGates a b → IsAddress a.cells at depth → IsAddress b.cells at depth
 address_grows a b at depth g h = address_later a.cells b.cells at depth (keeps_extends g.extends) h
 
 pub fits_later : (a b : List SizedCell) (x : NetTree) (k : Next) → Keeps a b → FitsNext a x k → FitsNext b x k
@@ -37,7 +37,7 @@ fits_later a b x (Write at word enable) keeps h = (h.0, h.1, written_later a b x
 pub nexts_keep : (a b : List SizedCell) (ns : List NetTree) (nexts : List Next) → Keeps a b → FitNexts ns nexts a → FitNexts ns nexts b
 nexts_keep a b ns nexts keeps h = record { long = h.long; each = λ p x k here there. fits_later a b x k keeps (h.each p x k here there) }
 
-pub nexts_grow : {ns : List NetTree} {nexts : List Next} {a b : Circuit} → Grows a b → FitNexts ns nexts a.cells → FitNexts ns nexts b.cells
+pub nexts_grow : {ns : List NetTree} {nexts : List Next} {a b : Circuit} → GrowsByGates a b → FitNexts ns nexts a.cells → FitNexts ns nexts b.cells
 nexts_grow {ns} {nexts} {a} {b} g h = nexts_keep a.cells b.cells ns nexts (keeps_extends g.extends) h
 
 pub same_or_not : (p q : ℕ) → (p ≡ q) ⊎ (p ≢ q)
@@ -51,7 +51,7 @@ same_or_not (suc p) (suc q) = elim (same_or_not p q) [
 
 -- with something new at one place
 module _ (ns : List NetTree) (nexts : List Next) (n : List ℕ) (here : IsNamed ns n) (a b : Circuit) (k : Next) where
-  pub nexts_set : Grows a b → FitNexts ns nexts a.cells → FitsNext b.cells here.net k → FitNexts ns (slice_set nexts (place_of ns n) k) b.cells
+  pub nexts_set : GrowsByGates a b → FitNexts ns nexts a.cells → FitsNext b.cells here.net k → FitNexts ns (slice_set nexts (place_of ns n) k) b.cells
   nexts_set g h fits =
       let old = nexts_grow g h in
       record {
@@ -133,7 +133,8 @@ no_memory here r = ap (passes (λ (x : NetTree). is_memory_kind x.kind)) here.fo
 
 pub register_net : (ns : List NetTree) (ys : List (Option NetId)) (nexts : List Next) (a b : Circuit) (n : List ℕ) (w : ℕ) (own net : NetId)
     (here : IsNamed ns n) → is_register_name ns n ≡ true → AreNets ns ys a.cells
-    → slice_get ys (place_of ns n) ≡ Some (Some own) → FitNexts ns nexts a.cells → w ≡ declared_width ns n → IsSoFar (next_at ns nexts n) own net → Grows a b
+    → slice_get ys (place_of ns n) ≡ Some (Some own) → FitNexts ns nexts a.cells → w ≡ declared_width ns n → IsSoFar (next_at ns nexts n) own net
+    → GrowsByGates a b
     → IsNet b.cells net.0 w
 register_net ns ys nexts a b n w own net here r nets found fit wide so_far g =
     let mine = name_net ns ys a.cells n own here (no_memory here r) nets found in

@@ -12,7 +12,7 @@ use Rattle.ae_netlist.specs.Circuit.{Circuit}
 use Rattle.ae_netlist.specs.Runs.{Clock, word_at, store_at}
 use Rattle.ae_vread.specs.ModuleTree.{ExprTree, StmtTree, set, put, when, either, NetTree}
 use Rattle.ae_runs.specs.Values.{ModuleClock, own_value, assigned, with_word, with_stored}
-use Rattle.ae_gates.specs.Cells.{Grows, IsWord}
+use Rattle.ae_gates.specs.Cells.{GrowsByGates, IsWord}
 use Rattle.ae_runs.specs.Named.{IsNamed, place_of, read, AreNamed}
 use Rattle.ae_runs.specs.Guards.{guarded}
 use Rattle.ae_assign.specs.Edges.{IsGuardNet, IsGuard, IsAddressWord, next_at, next_word, next_store, next_read, Acts}
@@ -28,12 +28,12 @@ and_bit false true = refl
 and_bit false false = refl
 
 -- a guard goes on to be one as the netlist grows
-pub guard_grows : {a b : Circuit} (from : ℕ) (guard : Option NetId) (g : List Clock → ℕ → Bool) → Grows a b → IsGuard from a.cells guard g
+pub guard_grows : {a b : Circuit} (from : ℕ) (guard : Option NetId) (g : List Clock → ℕ → Bool) → GrowsByGates a b → IsGuard from a.cells guard g
     → IsGuard from b.cells guard g
 guard_grows from None g grows h = h
 guard_grows from (Some y) g grows h = word_grows grows h
 
-pub guard_net_grows : {a b : Circuit} (guard : Option NetId) → Grows a b → IsGuardNet a.cells guard → IsGuardNet b.cells guard
+pub guard_net_grows : {a b : Circuit} (guard : Option NetId) → GrowsByGates a b → IsGuardNet a.cells guard → IsGuardNet b.cells guard
 guard_net_grows None grows h = tt
 guard_net_grows (Some y) grows h = net_grows grows h
 
@@ -187,7 +187,8 @@ module _ (from : ℕ) (ns : List NetTree) (ys : List (Option NetId)) where
       ((enable g guards).words all k run is t l) kept
 
   -- a branch, and two branches one behind the other
-  pub when_acts : (guard : Option NetId) (m0 m1 m2 m3 : Circuit) (old new : List Next) (test : ExprTree) (s : StmtTree) (none first : NetId) → Grows m0 m1
+  pub when_acts : (guard : Option NetId) (m0 m1 m2 m3 : Circuit) (old new : List Next) (test : ExprTree) (s : StmtTree) (none first : NetId)
+      → GrowsByGates m0 m1
       → ((at : List ℕ → ℕ) → AreNamed ns ys at → IsWord from m1.cells none.0 1 (λ run t. bit (own_value ns (read at run t) test == 0)))
       → ((g b : List Clock → ℕ → Bool) → IsGuard from m1.cells guard g → IsWord from m1.cells none.0 1 (λ run t. bit (b run t))
       → IsWord from m2.cells first.0 1 (λ run t. bit (g run t && not (b run t))))
@@ -198,7 +199,7 @@ module _ (from : ℕ) (ns : List NetTree) (ys : List (Option NetId)) where
       acts at (λ run t. g run t && not (b run t)) named (unless g b (guard_grows from guard g grows guards) (fails at named))
 
   pub either_acts : (guard : Option NetId) (m0 m1 m2 m3 m4 m5 : Circuit) (old mid new : List Next) (test : ExprTree) (s u : StmtTree)
-      (none first second : NetId) → Grows m0 m1 → Grows m1 m2 → Grows m2 m3 → Grows m3 m4 → Grows m4 m5
+      (none first second : NetId) → GrowsByGates m0 m1 → GrowsByGates m1 m2 → GrowsByGates m2 m3 → GrowsByGates m3 m4 → GrowsByGates m4 m5
       → ((at : List ℕ → ℕ) → AreNamed ns ys at → IsWord from m1.cells none.0 1 (λ run t. bit (own_value ns (read at run t) test == 0)))
       → ((g b : List Clock → ℕ → Bool) → IsGuard from m1.cells guard g → IsWord from m1.cells none.0 1 (λ run t. bit (b run t))
       → IsWord from m2.cells first.0 1 (λ run t. bit (g run t && not (b run t))))

@@ -14,7 +14,7 @@ use Rattle.ae_runs.specs.Values.{ModuleClock}
 use Rattle.ae_judge.specs.Weight.{stmt_weight}
 use Rattle.ae_runs.specs.Runs.{after_items}
 use Rattle.ae_judge.specs.Faults.{IsRepeated}
-use Rattle.ae_gates.specs.Cells.{Grows, IsWord}
+use Rattle.ae_gates.specs.Cells.{GrowsByGates, IsWord}
 use Rattle.ae_runs.specs.Named.{AreNamed, IsNamed, IsReady, place_of, read}
 use Rattle.ae_order.specs.Sound.{IsReadyFor, IsSound}
 use Rattle.ae_runs.specs.Guards.{guarded}
@@ -130,7 +130,7 @@ Acts from ns ys guard before after old new s =
 -- the statement makes of it
 pub record IsActed (from : ℕ) (ns : List NetTree) (ys : List (Option NetId)) (guard : Option NetId) (old new : Circuit)
     (before after : List Next) (s : StmtTree) : Type 0 where
-  pub grows : Grows old new
+  pub grows : GrowsByGates old new
   pub more : length old.cells ≤ length new.cells
   pub few : length new.cells ≤ length old.cells + 8 * stmt_weight 0 s
   pub nexts : FitNexts ns after new.cells

@@ -10,7 +10,7 @@ ghost use Rattle.ae_vread.specs.View.{expr_tree, stmt_tree};
 ghost use Rattle.ae_judge.specs.Names.{depth_of, is_memory_name, stmt_targets};
 ghost use Rattle.ae_judge.specs.Weight.{expr_weight, stmt_weight};
 ghost use Rattle.ae_runs.specs.Values.{own_value};
-ghost use Rattle.ae_gates.specs.Cells.{Grows, HasRoom, IsWord};
+ghost use Rattle.ae_gates.specs.Cells.{GrowsByGates, HasRoom, IsWord};
 ghost use Rattle.ae_runs.specs.Named.{AreNamed, AreNets, read};
 ghost use Rattle.ae_order.specs.Sound.{IsReadyFor, IsSound};
 ghost use Rattle.ae_assign.specs.Edges.{Acts, AreFresh, FitNexts, IsActed, IsAddressWord, IsGuard, IsGuardNet, IsReadyStmt, IsSoFar, IsSoundStmt, IsWordNext, OthersKeep};
@@ -53,7 +53,7 @@ fn fails(
     requires sound { IsSound names.now (expr_tree test.now) }
     requires ready { IsReadyFor names.now nets.now (expr_tree test.now) }
     requires room { HasRoom nl.old (8 * expr_weight (expr_tree test.now) + 3) }
-    ensures grows { OnOk result (Grows nl.old nl.new) }
+    ensures grows { OnOk result (GrowsByGates nl.old nl.new) }
     ensures more { OnOk result (length nl.old.cells ≤ length nl.new.cells) }
     ensures few { OnOk result (length nl.new.cells ≤ length nl.old.cells + 8 * expr_weight (expr_tree test.now) + 3) }
     ensures net { IfOk result (λ y. IsNet nl.new.cells y.0 1) }
@@ -71,7 +71,7 @@ fn also(nl: &mut Netlist, from: u32, guard: Option<NetId>, on: NetId) -> Result<
     requires guard { IsGuardNet nl.old.cells guard }
     requires on { IsNet nl.old.cells on.0 1 }
     requires room { HasRoom nl.old 1 }
-    ensures grows { OnOk result (Grows nl.old nl.new) }
+    ensures grows { OnOk result (GrowsByGates nl.old nl.new) }
     ensures more { OnOk result (length nl.old.cells ≤ length nl.new.cells) }
     ensures few { OnOk result (length nl.new.cells ≤ length nl.old.cells + 1) }
     ensures net { IfOk result (λ y. IsNet nl.new.cells y.0 1) }
@@ -93,7 +93,7 @@ fn unless(nl: &mut Netlist, from: u32, guard: Option<NetId>, on: NetId) -> Resul
     requires guard { IsGuardNet nl.old.cells guard }
     requires on { IsNet nl.old.cells on.0 1 }
     requires room { HasRoom nl.old 2 }
-    ensures grows { OnOk result (Grows nl.old nl.new) }
+    ensures grows { OnOk result (GrowsByGates nl.old nl.new) }
     ensures more { OnOk result (length nl.old.cells ≤ length nl.new.cells) }
     ensures few { OnOk result (length nl.new.cells ≤ length nl.old.cells + 2) }
     ensures net { IfOk result (λ y. IsNet nl.new.cells y.0 1) }
@@ -109,7 +109,7 @@ fn reached(nl: &mut Netlist, from: u32, guard: Option<NetId>) -> Result<NetId, A
     requires from { from ≤ length nl.old.cells }
     requires guard { IsGuardNet nl.old.cells guard }
     requires room { HasRoom nl.old 1 }
-    ensures grows { OnOk result (Grows nl.old nl.new) }
+    ensures grows { OnOk result (GrowsByGates nl.old nl.new) }
     ensures more { OnOk result (length nl.old.cells ≤ length nl.new.cells) }
     ensures few { OnOk result (length nl.new.cells ≤ length nl.old.cells + 1) }
     ensures net { IfOk result (λ y. IsNet nl.new.cells y.0 1) }
@@ -137,7 +137,7 @@ fn taken(
     requires left { IsNet nl.old.cells a.0 width }
     requires right { IsNet nl.old.cells b.0 width }
     requires room { HasRoom nl.old 1 }
-    ensures grows { OnOk result (Grows nl.old nl.new) }
+    ensures grows { OnOk result (GrowsByGates nl.old nl.new) }
     ensures more { OnOk result (length nl.old.cells ≤ length nl.new.cells) }
     ensures few { OnOk result (length nl.new.cells ≤ length nl.old.cells + 1) }
     ensures net { IfOk result (λ y. IsNet nl.new.cells y.0 width) }
@@ -184,7 +184,7 @@ fn assign(
     requires guard { IsGuardNet nl.old.cells guard }
     requires nexts { FitNexts names.now nexts.old.items nl.old.cells }
     requires room { HasRoom nl.old (8 * (1 + expr_weight (expr_tree value.now))) }
-    ensures grows { OnOk result (Grows nl.old nl.new) }
+    ensures grows { OnOk result (GrowsByGates nl.old nl.new) }
     ensures more { OnOk result (length nl.old.cells ≤ length nl.new.cells) }
     ensures few { OnOk result (length nl.new.cells ≤ length nl.old.cells + 8 * (1 + expr_weight (expr_tree value.now))) }
     ensures nexts { OnOk result (FitNexts names.now nexts.new.items nl.new.cells) }
@@ -216,7 +216,7 @@ fn written_at(
     requires ready { IsReadyFor names.now nets.now (index_tree _name.now (expr_tree at.now)) }
     requires memory { is_memory_name names.now _name.now ≡ true }
     requires room { HasRoom nl.old (8 * expr_weight (expr_tree at.now) + 1) }
-    ensures grows { OnOk result (Grows nl.old nl.new) }
+    ensures grows { OnOk result (GrowsByGates nl.old nl.new) }
     ensures more { OnOk result (length nl.old.cells ≤ length nl.new.cells) }
     ensures few { OnOk result (length nl.new.cells ≤ length nl.old.cells + 8 * expr_weight (expr_tree at.now) + 1) }
     ensures address { IfOk result (λ y. IsAddress nl.new.cells y.0 (depth_of names.now _name.now)) }
@@ -252,7 +252,7 @@ fn write(
     requires nexts { FitNexts names.now nexts.old.items nl.old.cells }
     requires fresh { AreFresh names.now nexts.old.items (stmt_targets (put_tree name.now (expr_tree at.now) (expr_tree value.now))) }
     requires room { HasRoom nl.old (8 * (1 + (expr_weight (expr_tree at.now) + expr_weight (expr_tree value.now)))) }
-    ensures grows { OnOk result (Grows nl.old nl.new) }
+    ensures grows { OnOk result (GrowsByGates nl.old nl.new) }
     ensures more { OnOk result (length nl.old.cells ≤ length nl.new.cells) }
     ensures few { OnOk result (length nl.new.cells ≤ length nl.old.cells + 8 * (1 + (expr_weight (expr_tree at.now) + expr_weight (expr_tree value.now)))) }
     ensures nexts { OnOk result (FitNexts names.now nexts.new.items nl.new.cells) }

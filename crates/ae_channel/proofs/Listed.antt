@@ -6,8 +6,8 @@ use Rattle.ae_netlist.specs.declared.cell.SizedCell.{SizedCell}
 use Rattle.ae_netlist.specs.declared.cell.Outlet.{Outlet}
 use Rattle.ae_vread.specs.ModuleTree.{ModuleTree}
 use Rattle.ae_vread.specs.Spells.{Spells}
-use Rattle.ae_elab.specs.Faults.{IsWellFormed}
-use Rattle.ae_elab.specs.SameRuns.{HasSameRuns}
+use Rattle.ae_judge.specs.Faults.{IsWellFormed}
+use Rattle.ae_runs.specs.SameRuns.{HasSameRuns}
 use Rattle.ae_verilog.specs.NetlistModule.{HavePorts, netlist_module}
 use Rattle.ae_verilog.specs.Notes.{lines_of, noted_module}
 use Rattle.ae_verilog.specs.ReportLines.{ReportTree, report_lines}

@@ -3,8 +3,8 @@ use Rattle.std.specs.Prelude.{◌≡◌, ℕ, List, length}
 use Rattle.ae_netlist.specs.Circuit.{Circuit}
 use Rattle.ae_vread.specs.ModuleTree.{ModuleTree}
 use Rattle.ae_vread.specs.Spells.{Spells}
-use Rattle.ae_elab.specs.Faults.{IsWellFormed}
-use Rattle.ae_elab.specs.SameRuns.{HasSameRuns}
+use Rattle.ae_judge.specs.Faults.{IsWellFormed}
+use Rattle.ae_runs.specs.SameRuns.{HasSameRuns}
 use Rattle.ae_verilog.specs.ReportLines.{ReportTree, report_lines}
 use Rattle.ae_verilog.specs.Text.{stream_listing}
 use Rattle.ae_spelled.specs.Streams.{IsModuleName}

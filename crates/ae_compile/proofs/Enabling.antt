@@ -12,10 +12,10 @@ use Rattle.ae_netlist.specs.declared.cell.Outlet.{Outlet}
 use Rattle.ae_netlist.specs.Circuit.{Circuit}
 use Rattle.ae_vread.specs.ModuleTree.{ModuleTree}
 use Rattle.ae_vread.specs.Spells.{Spells}
-use Rattle.ae_elab.specs.Faults.{IsWellFormed}
-use Rattle.ae_elab.specs.Runs.{HasOneModuleRun}
-use Rattle.ae_elab.specs.SameRuns.{HasSameRuns}
-use Rattle.ae_elab.specs.Weight.{weight}
+use Rattle.ae_judge.specs.Faults.{IsWellFormed}
+use Rattle.ae_runs.specs.Runs.{HasOneModuleRun}
+use Rattle.ae_runs.specs.SameRuns.{HasSameRuns}
+use Rattle.ae_judge.specs.Weight.{weight}
 use Rattle.ae_verilog.specs.NetlistModule.{netlist_module}
 use Rattle.ae_verilog.specs.Written.{IsWritableNetlist}
 use Rattle.ae_verilog.specs.Notes.{ArePrinted, NoteTree, lines_of, noted_module}

@@ -6,7 +6,7 @@ use Rattle.ae_vread.specs.declared.reader.VFault.{VFault}
 use Rattle.ae_vread.specs.declared.reader.VFault.TheVariants as v
 use Rattle.ae_judge.specs.declared.fault.ElabFault.{ElabFault}
 use Rattle.ae_judge.specs.declared.fault.ElabFault.TheVariants as e
-use Rattle.ae_elab.specs.Faults.{IsFault, IsWellFormed}
+use Rattle.ae_judge.specs.Faults.{IsFault, IsWellFormed}
 
 pub only_memory : (m : ModuleTree) (fault : ElabFault) → IsWellFormed m → IsFault m fault → fault ≡ e.Memory
 only_memory m (e.Unknown item) formed f = absurd (formed.known item f.0)

@@ -9,8 +9,8 @@ use Rattle.ae_netlist.specs.Circuit.{Circuit}
 use Rattle.ae_netlist.specs.Rows.{AreFirsts, AreInputs, HasOneRunWith, IsRunWith, filled}
 use Rattle.ae_netlist.specs.Runs.{Clock}
 use Rattle.ae_vread.specs.ModuleTree.{ModuleTree}
-use Rattle.ae_elab.specs.Runs.{clock_at}
-use Rattle.ae_elab.specs.SameRuns.{HasSameRuns, input_words, output_words}
+use Rattle.ae_runs.specs.Runs.{clock_at}
+use Rattle.ae_runs.specs.SameRuns.{HasSameRuns, input_words, output_words}
 use Rattle.ae_verilog.specs.NetlistModule.{netlist_module}
 use Rattle.ae_verilog.specs.Notes.{NoteTree}
 use Rattle.ae_verilog.specs.ReportLines.{ReportTree}

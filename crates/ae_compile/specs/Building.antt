@@ -5,9 +5,9 @@ use Rattle.ae_netlist.specs.Circuit.{Circuit}
 use Rattle.ae_netlist.specs.Counts.{count_of, is_mul}
 use Rattle.ae_vread.specs.ModuleTree.{ModuleTree}
 use Rattle.ae_vread.specs.Spells.{Spells, stars}
-use Rattle.ae_elab.specs.Faults.{IsWellFormed}
-use Rattle.ae_elab.specs.Runs.{HasOneModuleRun}
-use Rattle.ae_elab.specs.Weight.{weight}
+use Rattle.ae_judge.specs.Faults.{IsWellFormed}
+use Rattle.ae_runs.specs.Runs.{HasOneModuleRun}
+use Rattle.ae_judge.specs.Weight.{weight}
 use Rattle.ae_verilog.specs.Notes.{NoteTree, noted_module}
 use Rattle.ae_verilog.specs.ReportLines.{ReportTree, report_lines, is_clean}
 use Rattle.ae_verilog.specs.Text.{whole_text}

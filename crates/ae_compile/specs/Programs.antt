@@ -2,7 +2,7 @@
 use Rattle.std.specs.Prelude.{◌≡◌, ℕ, Some, None, List}
 use Rattle.ae_seq.specs.ProgramTree.{ProgramTree}
 use Rattle.ae_seq.specs.Typing.{Judged, untyped, too_large, refused_line}
-use Rattle.ae_parse.specs.Grammar.{IsProgramText as Reads, bad_line}
+use Rattle.ae_fields.specs.Grammar.{IsProgramText as Reads, bad_line}
 use Rattle.ae_compile.specs.declared.faults.CompileFault.{CompileFault}
 use Rattle.ae_compile.specs.declared.faults.CompileFault.TheVariants.{BadLine, BadType, TooLarge, Memory}
 

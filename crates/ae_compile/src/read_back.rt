@@ -4,8 +4,8 @@ ghost use Rattle.std.specs.Prelude.{◌≡◌, ◌<◌, ◌^◌, List, ℕ, leng
 ghost use Rattle.ae_vread.specs.ModuleTree.{ModuleTree};
 ghost use Rattle.ae_vread.specs.Spells.{Spells};
 ghost use Rattle.ae_vread.specs.View.{module_tree};
-ghost use Rattle.ae_elab.specs.Faults.{IsWellFormed};
-ghost use Rattle.ae_elab.specs.SameRuns.{HasSameRuns};
+ghost use Rattle.ae_judge.specs.Faults.{IsWellFormed};
+ghost use Rattle.ae_runs.specs.SameRuns.{HasSameRuns};
 
 use crate::faults::OutOfMemory;
 use ae_elab::{ElabFault, elaborate};

@@ -10,7 +10,7 @@ use Rattle.ae_netlist.specs.Circuit.{Circuit}
 use Rattle.ae_netlist.specs.Counts.{is_input, count_of, cells_of}
 use Rattle.ae_netlist.specs.Rows.{AreInputs, filled}
 use Rattle.ae_vread.specs.ModuleTree.{ModuleTree}
-use Rattle.ae_elab.specs.SameRuns.{BeginAlike, HasSameRuns, HaveEqualOutputs}
+use Rattle.ae_runs.specs.SameRuns.{BeginAlike, HasSameRuns, HaveEqualOutputs}
 use Rattle.ae_play.specs.Fed.{fed_rows}
 use Rattle.ae_play.specs.Lines.{clock_count}
 use Rattle.ae_correct.specs.Laws.{FeedsAreAlike, RunsAreAlike}

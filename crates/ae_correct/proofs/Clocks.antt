@@ -12,9 +12,9 @@ use Rattle.ae_netlist.specs.declared.cell.Outlet.{Outlet}
 use Rattle.ae_netlist.specs.Circuit.{Circuit}
 use Rattle.ae_netlist.specs.Runs.{Clock, IsReset, word_at}
 use Rattle.ae_vread.specs.ModuleTree.{NetTree}
-use Rattle.ae_elab.specs.Values.{ModuleClock}
-use Rattle.ae_elab.specs.Runs.{clock_at, IsResetRun}
-use Rattle.ae_elab.specs.SameRuns.{BeginAlike, HaveEqualOutputs}
+use Rattle.ae_runs.specs.Values.{ModuleClock}
+use Rattle.ae_runs.specs.Runs.{clock_at, IsResetRun}
+use Rattle.ae_runs.specs.SameRuns.{BeginAlike, HaveEqualOutputs}
 use Rattle.ae_verilog.specs.NetlistModule.{port_name}
 use Rattle.ae_sttype.specs.StTree.{StTree}
 use Rattle.ae_ops.specs.Blocks.{stream_of, stream_widths}

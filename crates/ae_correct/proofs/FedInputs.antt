@@ -10,9 +10,9 @@ use Rattle.ae_netlist.specs.Circuit.{Circuit}
 use Rattle.ae_netlist.specs.Counts.{count_of, is_input}
 use Rattle.ae_netlist.specs.Runs.{Clock, word_at}
 use Rattle.ae_netlist.specs.Rows.{TakesRows}
-use Rattle.ae_elab.specs.Values.{ModuleClock}
-use Rattle.ae_elab.specs.Runs.{clock_at}
-use Rattle.ae_elab.specs.SameRuns.{BeginAlike}
+use Rattle.ae_runs.specs.Values.{ModuleClock}
+use Rattle.ae_runs.specs.Runs.{clock_at}
+use Rattle.ae_runs.specs.SameRuns.{BeginAlike}
 use Rattle.ae_sttype.specs.StTree.{StTree}
 use Rattle.ae_ops.specs.Blocks.{stream_of, stream_widths}
 use Rattle.ae_eval.proofs.Items.{slice_get-take}

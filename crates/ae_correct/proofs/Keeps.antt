@@ -14,8 +14,8 @@ use Rattle.ae_netlist.specs.Circuit.{Circuit}
 use Rattle.ae_netlist.specs.Counts.{count_of, is_input}
 use Rattle.ae_netlist.specs.Runs.{Clock}
 use Rattle.ae_vread.specs.ModuleTree.{ModuleTree}
-use Rattle.ae_elab.specs.Values.{ModuleClock}
-use Rattle.ae_elab.specs.SameRuns.{BeginAlike, HaveEqualOutputs, HasSameRuns}
+use Rattle.ae_runs.specs.Values.{ModuleClock}
+use Rattle.ae_runs.specs.SameRuns.{BeginAlike, HaveEqualOutputs, HasSameRuns}
 use Rattle.ae_verilog.specs.NetlistModule.{netlist_module, IsInputPort}
 use Rattle.ae_ops.specs.Waves.{Wave}
 use Rattle.ae_ops.specs.Blocks.{Stream, stream_of, stream_widths}

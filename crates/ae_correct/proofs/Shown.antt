@@ -13,9 +13,9 @@ use Rattle.ae_netlist.specs.Circuit.{Circuit}
 use Rattle.ae_netlist.specs.Runs.{Clock}
 use Rattle.ae_netlist.specs.Rows.{AreInputs, IsRunWith, filled}
 use Rattle.ae_vread.specs.ModuleTree.{ModuleTree}
-use Rattle.ae_elab.specs.Values.{ModuleClock}
-use Rattle.ae_elab.specs.Runs.{clock_at, IsModuleRun}
-use Rattle.ae_elab.specs.SameRuns.{BeginAlike, HasSameRuns, HaveEqualOutputs, output_words}
+use Rattle.ae_runs.specs.Values.{ModuleClock}
+use Rattle.ae_runs.specs.Runs.{clock_at, IsModuleRun}
+use Rattle.ae_runs.specs.SameRuns.{BeginAlike, HasSameRuns, HaveEqualOutputs, output_words}
 use Rattle.ae_verilog.specs.NetlistModule.{netlist_module}
 use Rattle.ae_ops.specs.Blocks.{stream_of, stream_widths}
 use Rattle.ae_seq.specs.ProgramTree.{ProgramTree}

@@ -10,7 +10,7 @@ use Rattle.ae_netlist.specs.Circuit.{Circuit}
 use Rattle.ae_netlist.specs.Counts.{is_input, count_of, number_of, cells_of}
 use Rattle.ae_netlist.specs.Runs.{Clock, word_at}
 use Rattle.ae_netlist.specs.Rows.{AreInputs, Firsts, IsRunWith}
-use Rattle.ae_elab.specs.SameRuns.{is_input_cell, net_input_words}
+use Rattle.ae_runs.specs.SameRuns.{is_input_cell, net_input_words}
 
 same_input : (c : Cell) → is_input_cell c ≡ is_input c
 same_input (Input port) = refl

@@ -6,9 +6,9 @@ use Rattle.ae_sttype.specs.declared.st_type.Slot.{Slot}
 use Rattle.ae_sttype.specs.StTree.{StTree, lanes, element_atom, element_words}
 use Rattle.ae_sttype.specs.Slots.{slots}
 use Rattle.ae_vread.specs.ModuleTree.{NetTree, ModuleTree}
-use Rattle.ae_elab.specs.Values.{ModuleClock}
-use Rattle.ae_elab.specs.Runs.{clock_at, IsResetRun}
-use Rattle.ae_elab.specs.SameRuns.{states_of, kind_depth, held_words, input_words, output_words}
+use Rattle.ae_runs.specs.Values.{ModuleClock}
+use Rattle.ae_runs.specs.Runs.{clock_at, IsResetRun}
+use Rattle.ae_runs.specs.SameRuns.{states_of, kind_depth, held_words, input_words, output_words}
 use Rattle.ae_play.specs.Lines.{clock_count, clock_lines}
 use Rattle.ae_play.specs.Sums.{AreSums}
 use Rattle.ae_play.specs.declared.sums.Sums.{Sums}

@@ -11,9 +11,9 @@ use Rattle.ae_seq.specs.Meaning.{at, mean}
 use Rattle.ae_rewrite.specs.Interface.{AreValues, HaveLayouts, parameter_types}
 use Rattle.ae_netlist.specs.declared.cell.Port.TheVariants.{In, Out}
 use Rattle.ae_vread.specs.ModuleTree.{NetTree, ModuleTree}
-use Rattle.ae_elab.specs.Names.{is_input_kind, is_output_kind, clock_name}
-use Rattle.ae_elab.specs.Values.{ModuleClock}
-use Rattle.ae_elab.specs.Runs.{clock_at, IsResetRun}
+use Rattle.ae_judge.specs.Names.{is_input_kind, is_output_kind, clock_name}
+use Rattle.ae_runs.specs.Values.{ModuleClock}
+use Rattle.ae_runs.specs.Runs.{clock_at, IsResetRun}
 use Rattle.ae_verilog.specs.NetlistModule.{port_name}
 
 -- ---- ports

@@ -13,9 +13,9 @@ use Rattle.ae_seqtype.specs.ValueTree.{ValueTree, flat}
 use Rattle.ae_rewrite.specs.Interface.{AreValues, HaveLayouts}
 use Rattle.ae_delay.specs.declared.own.OwnCosts.{OwnCosts}
 use Rattle.ae_ports.specs.CircuitFor.{IsCircuitFor}
-use Rattle.ae_elab.specs.Runs.{clock_at}
-use Rattle.ae_elab.specs.SameRuns.{HasSameRuns, input_words, output_words}
-use Rattle.ae_elab.specs.Values.{ModuleClock}
+use Rattle.ae_runs.specs.Runs.{clock_at}
+use Rattle.ae_runs.specs.SameRuns.{HasSameRuns, input_words, output_words}
+use Rattle.ae_runs.specs.Values.{ModuleClock}
 use Rattle.ae_verilog.specs.NetlistModule.{netlist_module}
 use Rattle.ae_verilog.specs.Written.{IsWritableNetlist}
 use Rattle.ae_play.specs.Fed.{clock_row, fed_rows}

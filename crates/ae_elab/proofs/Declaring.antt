@@ -19,7 +19,7 @@ use Rattle.ae_vread.specs.ModuleTree.{NetTree, ModuleTree}
 use Rattle.ae_judge.specs.Names.{is_clock, is_input_kind, is_register_kind}
 use Rattle.ae_runs.specs.SameRuns.{is_input_cell, is_state_cell, cell_depth, input_cells, kind_depth}
 use Rattle.ae_runs.specs.Named.{StandsFor}
-use Rattle.ae_elab.specs.Declaring.{Adds, AreDeclared, ArePlainInputs, IsUnconnected, given_cell, is_data_input, is_given, is_state, number_of, with_nets}
+use Rattle.ae_elab.specs.Declaring.{AddsCell, AreDeclared, ArePlainInputs, IsUnconnected, given_cell, is_data_input, is_given, is_state, number_of, with_nets}
 use Rattle.ae_gates.proofs.Words.{left_out}
 use Rattle.ae_express.proofs.NetLaws.{stands_later}
 
@@ -230,23 +230,23 @@ module _ (m : ModuleTree) (ns : List NetTree) (nets : List (Option NetId)) (cell
 -- what a declaration adds
 pub declared_more : (m : ModuleTree) (ns : List NetTree) (nets : List (Option NetId)) (old new : Circuit) (x : NetTree) (net : Option NetId) (port : ℕ)
     → AreDeclared m ns nets old.cells → port ≡ count_of is_input old.cells
-    → Adds (given_cell x.kind (is_clock m x.name) (length old.cells) port x.width) old new net → AreDeclared m (ns ++ x ∷ []) (nets ++ net ∷ []) new.cells
+    → AddsCell (given_cell x.kind (is_clock m x.name) (length old.cells) port x.width) old new net → AreDeclared m (ns ++ x ∷ []) (nets ++ net ∷ []) new.cells
 declared_more m ns nets old new x net port all count adds = by_kind x.kind (is_clock m x.name) refl refl adds
   where
-    none : is_data_input m x ≡ false → is_state x ≡ false → Adds None old new net → AreDeclared m (ns ++ x ∷ []) (nets ++ net ∷ []) new.cells
+    none : is_data_input m x ≡ false → is_state x ≡ false → AddsCell None old new net → AreDeclared m (ns ++ x ∷ []) (nets ++ net ∷ []) new.cells
     none i s a = rw (a.0, a.1) (declared_none m ns nets old.cells all x i s)
 
     some : (c : SizedCell) → is_data_input m x ≡ is_input_cell c.cell → is_state x ≡ is_state_cell c.cell → is_given m x ≡ true → c.width ≡ x.width
         → cell_depth c.cell ≡ kind_depth x.kind
         → StandsFor x.kind (old.cells ++ c ∷ []) (length old.cells) x.width → IsUnconnected x.kind (old.cells ++ c ∷ []) (length old.cells) x.width
-        → (is_input_cell c.cell ≡ true → c.cell ≡ InputCell (Plain port)) → Adds (Some c) old new net
+        → (is_input_cell c.cell ≡ true → c.cell ≡ InputCell (Plain port)) → AddsCell (Some c) old new net
         → AreDeclared m (ns ++ x ∷ []) (nets ++ net ∷ []) new.cells
     some c i s g w d stands free is a = rw (a.0, a.1) (declared_some m ns nets old.cells all x c port i s g w d stands free count is)
 
     register : (k : NetKind) → x.kind ≡ k → is_input_kind k ≡ false → is_register_kind k ≡ true → kind_depth k ≡ None
         → ((cells : List SizedCell) (n w : ℕ) → IsNet cells n w → StandsFor k cells n w)
         → ((cells : List SizedCell) (n w : ℕ) → slice_get cells n ≡ Some (new_register n w) → IsUnconnected k cells n w)
-        → Adds (Some (new_register (length old.cells) x.width)) old new net → AreDeclared m (ns ++ x ∷ []) (nets ++ net ∷ []) new.cells
+        → AddsCell (Some (new_register (length old.cells) x.width)) old new net → AreDeclared m (ns ++ x ∷ []) (nets ++ net ∷ []) new.cells
     register k e i r d stands free a =
         let c : SizedCell = new_register (length old.cells) x.width in
         some c (rw (e, i) refl) (rw (e, r) refl) (rw (e, i, r) refl) refl (rw (e, d) refl)
@@ -254,7 +254,7 @@ declared_more m ns nets old new x net port all count adds = by_kind x.kind (is_c
         (rw e (free (old.cells ++ c ∷ []) (length old.cells) x.width (get_pushed old.cells c)))
         (λ t. absurd (cc)) a
 
-    by_kind : (k : NetKind) (b : Bool) → x.kind ≡ k → is_clock m x.name ≡ b → Adds (given_cell k b (length old.cells) port x.width) old new net
+    by_kind : (k : NetKind) (b : Bool) → x.kind ≡ k → is_clock m x.name ≡ b → AddsCell (given_cell k b (length old.cells) port x.width) old new net
         → AreDeclared m (ns ++ x ∷ []) (nets ++ net ∷ []) new.cells
     by_kind Input true e f a = none (rw (e, f) refl) (rw e refl) a
     by_kind Input false e f a =
@@ -270,10 +270,10 @@ declared_more m ns nets old new x net port all count adds = by_kind x.kind (is_c
         some c (rw e refl) (rw e refl) (rw e refl) refl (rw e refl)
         (rw e (record { at = _; next = _; enable = _; found = get_pushed old.cells c })) (rw e (get_pushed old.cells c)) (λ t. absurd (cc)) a
 
-pub adds_limit : (o : Option SizedCell) (old new : Circuit) (net : Option NetId) → Adds o old new net → new.limit ≡ old.limit
+pub adds_limit : (o : Option SizedCell) (old new : Circuit) (net : Option NetId) → AddsCell o old new net → new.limit ≡ old.limit
 adds_limit None old new net a = ap (λ (c : Circuit). c.limit) a.1
 adds_limit (Some cell) old new net a = ap (λ (c : Circuit). c.limit) a.1
 
-pub adds_outlets : (o : Option SizedCell) (old new : Circuit) (net : Option NetId) → Adds o old new net → new.outlets ≡ old.outlets
+pub adds_outlets : (o : Option SizedCell) (old new : Circuit) (net : Option NetId) → AddsCell o old new net → new.outlets ≡ old.outlets
 adds_outlets None old new net a = ap (λ (c : Circuit). c.outlets) a.1
 adds_outlets (Some cell) old new net a = ap (λ (c : Circuit). c.outlets) a.1

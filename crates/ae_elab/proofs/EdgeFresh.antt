@@ -13,7 +13,7 @@ use Rattle.ae_judge.specs.Names.{Among, is_memory_name, is_memory_kind, is_regis
 use Rattle.ae_runs.specs.Runs.{after_items, next_clock}
 use Rattle.ae_judge.specs.Faults.{IsRepeated, may_repeat}
 use Rattle.ae_judge.specs.Regular.{IsRegular}
-use Rattle.ae_gates.specs.Cells.{Grows}
+use Rattle.ae_gates.specs.Cells.{GrowsByGates}
 use Rattle.ae_runs.specs.Named.{AreNamed, place_of, read}
 use Rattle.ae_elab.specs.Declaring.{AreUnconnected, IsUnconnected}
 use Rattle.ae_assign.specs.Edges.{FitsNext, FitNexts, AreFresh, ActsItems, next_word, next_store, next_read}
@@ -133,7 +133,7 @@ items_next m from ys mid nexts acts at named all k run is t l =
     acts at named all k run is t l ∙ ap (λ c. after_items m.nets (read at run t) m.items c) (first_read m.nets at run t)
 
 -- registers and memories are not connected as the netlist grows
-free_later : (k : NetKind) (a b : Circuit) (n w : ℕ) → Grows a b → IsUnconnected k a.cells n w → IsUnconnected k b.cells n w
+free_later : (k : NetKind) (a b : Circuit) (n w : ℕ) → GrowsByGates a b → IsUnconnected k a.cells n w → IsUnconnected k b.cells n w
 free_later Input a b n w g h = tt
 free_later Wire a b n w g h = tt
 free_later OutWire a b n w g h = tt
@@ -141,7 +141,7 @@ free_later Reg a b n w g h = g.extends.keeps n _ h
 free_later OutReg a b n w g h = g.extends.keeps n _ h
 free_later (Memory depth) a b n w g h = g.extends.keeps n _ h
 
-pub unconnected_grows : (m : ModuleTree) (from : ℕ) (ys : List (Option NetId)) (a b : Circuit) → Grows a b → AreUnconnected m from ys a.cells
+pub unconnected_grows : (m : ModuleTree) (from : ℕ) (ys : List (Option NetId)) (a b : Circuit) → GrowsByGates a b → AreUnconnected m from ys a.cells
     → AreUnconnected m from ys b.cells
 unconnected_grows m from ys a b g h = record {
   each = λ p x y here net. free_later x.kind a b y.0 x.width g (h.each p x y here net);

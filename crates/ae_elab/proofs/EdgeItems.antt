@@ -8,7 +8,7 @@ use Rattle.ae_netlist.specs.Runs.{Clock, IsRun, Carries}
 use Rattle.ae_vread.specs.ModuleTree.{StmtTree, NetTree, ItemTree, always}
 use Rattle.ae_judge.specs.Names.{item_targets}
 use Rattle.ae_runs.specs.Runs.{after_items}
-use Rattle.ae_gates.specs.Cells.{Grows}
+use Rattle.ae_gates.specs.Cells.{GrowsByGates}
 use Rattle.ae_runs.specs.Named.{AreNamed, read}
 use Rattle.ae_assign.specs.Edges.{IsActiveItem, FitNexts, AreFresh, OthersKeep, Acts, ActsItems, edge_weight, next_read}
 use Rattle.ae_assign.specs.declared.statements.Next.{Next}
@@ -27,7 +27,7 @@ module _ (from : ℕ) (ns : List NetTree) (ys : List (Option NetId)) where
 -- so many items are done, and the rest is not
 pub record AreActing (from : ℕ) (ns : List NetTree) (ys : List (Option NetId)) (old new : Circuit) (before after : List Next)
     (whole rest : List ItemTree) : Type 0 where
-  pub grows : Grows old new
+  pub grows : GrowsByGates old new
   pub more : length old.cells ≤ length new.cells
   pub few : length new.cells + 8 * sum_by edge_weight rest ≤ length old.cells + 8 * sum_by edge_weight whole
   pub nexts : FitNexts ns after new.cells
@@ -52,7 +52,7 @@ module _ (from : ℕ) (ns : List NetTree) (ys : List (Option NetId)) (old : Circ
 
   pub items_step : (mid new : Circuit) (after later : List Next) (i : ItemTree) (rest : List ItemTree)
       → AreActing from ns ys old mid before after whole (i ∷ rest)
-      → Grows mid new → length mid.cells ≤ length new.cells → length new.cells ≤ length mid.cells + 8 * edge_weight i → FitNexts ns later new.cells
+      → GrowsByGates mid new → length mid.cells ≤ length new.cells → length new.cells ≤ length mid.cells + 8 * edge_weight i → FitNexts ns later new.cells
       → OthersKeep ns after later (item_targets i) → ActsItems from ns ys new.cells after later (i ∷ [])
       → AreActing from ns ys old new before later whole rest
   items_step mid new after later i rest h grows more few nexts others acts =

@@ -16,7 +16,7 @@ use Rattle.ae_judge.specs.Faults.{NetAt}
 use Rattle.ae_judge.specs.Weight.{drive_weight, expr_weight}
 use Rattle.ae_judge.specs.Shape.{IsShapely}
 use Rattle.ae_judge.specs.Regular.{IsRegular}
-use Rattle.ae_gates.specs.Cells.{Grows, IsWord}
+use Rattle.ae_gates.specs.Cells.{GrowsByGates, IsWord}
 use Rattle.ae_runs.specs.Named.{AreNamed, IsReady, StandsFor, place_of, read}
 use Rattle.ae_order.specs.Sound.{IsReadyFor}
 use Rattle.ae_order.specs.Drives.{FeedsAt, IsWireOrder, noted, values_of, with_drive}
@@ -188,7 +188,7 @@ module _ (m : ModuleTree) (ok : IsRegular m) (shape : IsShapely m) where
     -- a wire has its net
     pub wiring_more : (nets : List (Option NetId)) (old new : Circuit) (x : NetTree) (e : ExprTree) (y : NetId) → IsWiring m from order k nets old.cells
         → slice_get (values_of m) p ≡ Some (Some e) → NetAt m p x
-        → Grows old new → length old.cells ≤ length new.cells → IsNet new.cells y.0 x.width
+        → GrowsByGates old new → length old.cells ≤ length new.cells → IsNet new.cells y.0 x.width
         → ((at : List ℕ → ℕ) → AreNamed m.nets nets at → IsWord from new.cells y.0 x.width (λ run t. fitted m.nets (read at run t) x.width e))
         → IsWiring m from order (k + 1) (set nets p (Some y)) new.cells
     wiring_more nets old new x e y is h hx g more net word =

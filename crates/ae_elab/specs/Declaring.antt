@@ -35,9 +35,9 @@ given_cell OutReg is_clock own port width = Some (new_register own width)
 given_cell (Memory depth) is_clock own port width = Some (new_memory own width depth)
 
 -- a netlist with one cell more, which is the net; or as it was, and no net
-abbrev pub Adds : Option SizedCell → (old new : Circuit) → Option NetId → Type 0
-Adds None old new net = (net ≡ None) × (new ≡ old)
-Adds (Some cell) old new net =
+abbrev pub AddsCell : Option SizedCell → (old new : Circuit) → Option NetId → Type 0
+AddsCell None old new net = (net ≡ None) × (new ≡ old)
+AddsCell (Some cell) old new net =
     (net ≡ Some (record { 0 = length old.cells })) × (new ≡ record old { cells = old.cells ++ cell ∷ [] })
 
 abbrev pub number_of : Option NetId → ℕ

@@ -1,11 +1,3 @@
-pub use Rattle.ae_judge.specs.Names
-pub use Rattle.ae_judge.specs.Widths
-pub use Rattle.ae_judge.specs.Weight
-pub use Rattle.ae_judge.specs.Faults
-pub use Rattle.ae_runs.specs.Values
-pub use Rattle.ae_runs.specs.Runs
-pub use Rattle.ae_runs.specs.PlainRun
-pub use Rattle.ae_runs.specs.SameRuns
 pub mod Declaring
 pub mod Wiring
 pub mod Connecting

@@ -8,7 +8,7 @@ ghost use Rattle.ae_netlist.specs.Counts.{count_of, is_input};
 ghost use Rattle.ae_judge.specs.Regular.{IsRegular};
 ghost use Rattle.ae_judge.specs.Shape.{IsShapely};
 ghost use Rattle.ae_gates.specs.Cells.{HasRoom};
-ghost use Rattle.ae_elab.specs.Declaring.{Adds, AreDeclared, given_cell};
+ghost use Rattle.ae_elab.specs.Declaring.{AddsCell, AreDeclared, given_cell};
 
 use ae_judge::{Names, clock_of, is_named};
 use ae_netlist::{Cell, NetId, Netlist, Port};
@@ -16,24 +16,24 @@ use ae_vread::{NetKind, VModule, VNet};
 use ae_word::Width;
 use std::alloc::{AllocError, Global};
 
-/// Adds a register, for which there is room.
+/// AddsCell a register, for which there is room.
 fn push_register(nl: &mut Netlist, width: u32) -> Result<NetId, AllocError>
     requires low { 1 ≤ width }
     requires high { width ≤ 64 }
     requires room { HasRoom nl.old 1 }
-    ensures { IfOk result (λ net. Adds (Some (new_register (length nl.old.cells) width)) nl.old nl.new (Some net)) }
+    ensures { IfOk result (λ net. AddsCell (Some (new_register (length nl.old.cells) width)) nl.old nl.new (Some net)) }
 {
     nl.push_register(Width { bits: width })
 }
 
-/// Adds a memory, for which there is room.
+/// AddsCell a memory, for which there is room.
 fn push_memory(nl: &mut Netlist, width: u32, depth: u32) -> Result<NetId, AllocError>
     requires low { 1 ≤ width }
     requires high { width ≤ 64 }
     requires some { 1 ≤ depth }
     requires most { depth ≤ 65536 }
     requires room { HasRoom nl.old 1 }
-    ensures { IfOk result (λ net. Adds (Some (new_memory (length nl.old.cells) width depth)) nl.old nl.new (Some net)) }
+    ensures { IfOk result (λ net. AddsCell (Some (new_memory (length nl.old.cells) width depth)) nl.old nl.new (Some net)) }
 {
     nl.push_memory(Width { bits: width }, depth)
 }
@@ -44,7 +44,7 @@ fn declare(nl: &mut Netlist, net: &VNet, is_clock: bool) -> Result<Option<NetId>
     requires high { net.now.width ≤ 64 }
     requires deep { (depth : ℕ) → net.now.kind ≡ Memory depth → (1 ≤ depth) × (depth ≤ 65536) }
     requires room { HasRoom nl.old 1 }
-    ensures { IfOk result (λ found. Adds (given_cell net.now.kind is_clock (length nl.old.cells) (count_of is_input nl.old.cells) net.now.width) nl.old nl.new found) }
+    ensures { IfOk result (λ found. AddsCell (given_cell net.now.kind is_clock (length nl.old.cells) (count_of is_input nl.old.cells) net.now.width) nl.old nl.new found) }
 {
     match net.kind {
         NetKind::Wire | NetKind::OutWire => Ok(None),

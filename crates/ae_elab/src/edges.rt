@@ -10,7 +10,7 @@ ghost use Rattle.ae_judge.specs.Faults.{NetAt};
 ghost use Rattle.ae_runs.specs.Runs.{IsStep};
 ghost use Rattle.ae_judge.specs.Regular.{IsRegular};
 ghost use Rattle.ae_judge.specs.Shape.{IsShapely};
-ghost use Rattle.ae_gates.specs.Cells.{Grows, HasRoom};
+ghost use Rattle.ae_gates.specs.Cells.{GrowsByGates, HasRoom};
 ghost use Rattle.ae_runs.specs.Named.{AreNamed, AreNets, read};
 ghost use Rattle.ae_elab.specs.Declaring.{AreUnconnected, HasNet, IsUnconnected, is_state};
 ghost use Rattle.ae_elab.specs.Connecting.{Connects};
@@ -38,7 +38,7 @@ fn act_item(
     requires nexts { FitNexts names.now nexts.old.items nl.old.cells }
     requires fresh { AreFresh names.now nexts.old.items (item_targets (item_tree item.now)) }
     requires room { HasRoom nl.old (8 * edge_weight (item_tree item.now)) }
-    ensures grows { OnOk result (Grows nl.old nl.new) }
+    ensures grows { OnOk result (GrowsByGates nl.old nl.new) }
     ensures more { OnOk result (length nl.old.cells ≤ length nl.new.cells) }
     ensures few { OnOk result (length nl.new.cells ≤ length nl.old.cells + 8 * edge_weight (item_tree item.now)) }
     ensures nexts { OnOk result (FitNexts names.now nexts.new.items nl.new.cells) }
@@ -70,7 +70,7 @@ fn act_items(
     requires nexts { FitNexts names.now nexts.old.items nl.old.cells }
     requires fresh { AreFresh names.now nexts.old.items (flat_map item_targets (map item_tree items.now)) }
     requires room { HasRoom nl.old (8 * sum_by edge_weight (map item_tree items.now)) }
-    ensures grows { OnOk result (Grows nl.old nl.new) }
+    ensures grows { OnOk result (GrowsByGates nl.old nl.new) }
     ensures few { OnOk result (length nl.new.cells ≤ length nl.old.cells + 8 * sum_by edge_weight (map item_tree items.now)) }
     ensures nexts { OnOk result (FitNexts names.now nexts.new.items nl.new.cells) }
     ensures acts { OnOk result (ActsItems from names.now nets.now nl.new.cells nexts.old.items nexts.new.items (map item_tree items.now)) }

@@ -9,7 +9,7 @@ ghost use Rattle.ae_judge.specs.Faults.{NetAt};
 ghost use Rattle.ae_judge.specs.Weight.{drive_weight};
 ghost use Rattle.ae_judge.specs.Regular.{IsRegular};
 ghost use Rattle.ae_judge.specs.Shape.{IsShapely};
-ghost use Rattle.ae_gates.specs.Cells.{Grows, HasRoom};
+ghost use Rattle.ae_gates.specs.Cells.{GrowsByGates, HasRoom};
 ghost use Rattle.ae_order.specs.Drives.{IsWireOrder, values_of};
 ghost use Rattle.ae_elab.specs.Declaring.{AreDeclared};
 ghost use Rattle.ae_elab.specs.Wiring.{AreWired, IsWiring, KeepsNets, open_weight};
@@ -69,7 +69,7 @@ fn add_wire(
     requires wiring { IsWiring (module_tree m.now) from order.now turn nets.old.items nl.old.cells }
     requires room { HasRoom nl.old (8 * open_weight (values_of (module_tree m.now)) nets.old.items) }
     ensures wiring { OnOk result (IsWiring (module_tree m.now) from order.now (turn + 1) nets.new.items nl.new.cells) }
-    ensures grows { OnOk result (Grows nl.old nl.new) }
+    ensures grows { OnOk result (GrowsByGates nl.old nl.new) }
     ensures keeps { OnOk result (KeepsNets nets.old.items nets.new.items) }
     ensures few { OnOk result (length nl.new.cells + 8 * open_weight (values_of (module_tree m.now)) nets.new.items ≤ length nl.old.cells + 8 * open_weight (values_of (module_tree m.now)) nets.old.items) }
 {
@@ -104,7 +104,7 @@ pub fn add_wires(
     requires declared { AreDeclared (module_tree m.now) (module_tree m.now).nets nets.old.items nl.old.cells }
     requires room { HasRoom nl.old (8 * sum_by drive_weight (equations (module_tree m.now))) }
     ensures wired { OnOk result (AreWired (module_tree m.now) from nets.new.items nl.new.cells) }
-    ensures grows { OnOk result (Grows nl.old nl.new) }
+    ensures grows { OnOk result (GrowsByGates nl.old nl.new) }
     ensures keeps { OnOk result (KeepsNets nets.old.items nets.new.items) }
     ensures few { OnOk result (length nl.new.cells ≤ length nl.old.cells + 8 * sum_by drive_weight (equations (module_tree m.now))) }
 {

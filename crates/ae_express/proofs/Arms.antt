@@ -18,7 +18,7 @@ use Rattle.ae_gates.specs.declared.compounds.Way.{Way}
 use Rattle.ae_gates.specs.Shifts.{moved}
 use Rattle.ae_express.specs.Forms.{IsShiftForm}
 use Rattle.ae_express.specs.ConstantValue.{IsConstantOf}
-use Rattle.ae_gates.specs.Cells.{Grows, IsWord}
+use Rattle.ae_gates.specs.Cells.{GrowsByGates, IsWord}
 use Rattle.ae_runs.specs.Named.{AreNamed, read}
 use Rattle.ae_gates.proofs.Words.{word_grows, same_word}
 use Rattle.ae_order.proofs.Answered.{ok_map}
@@ -88,7 +88,7 @@ module _ (from : ℕ) (ns : List NetTree) (nets : List (Option NetId)) where
       (h _ (p at named)))
 
   pub binary_arm : {E : Type 0} (m1 m2 m3 : Circuit) (r : Result NetId E) (op : BinOp) (x y u v w : ℕ) (a b : ExprTree)
-      → u ≡ left_width op w (own_width ns a) (own_width ns b) → v ≡ right_width op w (own_width ns a) (own_width ns b) → Grows m1 m2
+      → u ≡ left_width op w (own_width ns a) (own_width ns b) → v ≡ right_width op w (own_width ns a) (own_width ns b) → GrowsByGates m1 m2
       → Has from ns nets m1.cells x u a → Has from ns nets m2.cells y v b
       → IfOk r (λ z. (f g : List Clock → ℕ → ℕ) → IsWord from m2.cells x u f → IsWord from m2.cells y v g
       → IsWord from m3.cells z.0 w (λ run t. binary_result op w (f run t) (g run t)))
@@ -97,8 +97,8 @@ module _ (from : ℕ) (ns : List NetTree) (nets : List (Option NetId)) where
       (λ run t. operands_at op (read at run t) w u v a b e d)
       (h _ _ (word_grows g (p at named)) (q at named)))
 
-  pub choice_arm : {E : Type 0} (m1 m2 m3 m4 : Circuit) (r : Result NetId E) (k x y u w : ℕ) (test a b : ExprTree) → u ≡ own_width ns test → Grows m1 m2
-      → Grows m2 m3
+  pub choice_arm : {E : Type 0} (m1 m2 m3 m4 : Circuit) (r : Result NetId E) (k x y u w : ℕ) (test a b : ExprTree) → u ≡ own_width ns test → GrowsByGates m1 m2
+      → GrowsByGates m2 m3
       → Has from ns nets m1.cells k u test → Has from ns nets m2.cells x w a → Has from ns nets m3.cells y w b
       → IfOk r (λ z. (h f g : List Clock → ℕ → ℕ) → IsWord from m3.cells k u h → IsWord from m3.cells x w f → IsWord from m3.cells y w g
       → IsWord from m4.cells z.0 w (λ run t. if h run t == 0 then g run t else f run t))

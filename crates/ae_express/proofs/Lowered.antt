@@ -18,7 +18,7 @@ use Rattle.ae_gates.specs.declared.compounds.Way.{Way}
 use Rattle.ae_gates.specs.Shifts.{moved}
 use Rattle.ae_express.specs.Forms.{IsShiftForm, most_cells}
 use Rattle.ae_express.specs.ConstantValue.{IsConstantOf}
-use Rattle.ae_gates.specs.Cells.{Grows, IsWord}
+use Rattle.ae_gates.specs.Cells.{GrowsByGates, IsWord}
 use Rattle.ae_runs.specs.Named.{AreNamed, AreNets, read}
 use Rattle.ae_express.specs.Parts.{part_weight}
 use Rattle.ae_express.specs.Lowered.{IsLowered}
@@ -28,8 +28,8 @@ use Rattle.ae_express.proofs.Arms.{Has, index_arm, not_arm, flip_arm, constant_a
 use Rattle.ae_express.proofs.PartLaws.{parts_weight}
 
 -- a call that adds at most k cells
-pub record Adds {E : Type 0} (r : Result NetId E) (old new : Circuit) (k w : ℕ) : Type 0 where
-  pub grows : OnOk r (Grows old new)
+pub record AddsNet {E : Type 0} (r : Result NetId E) (old new : Circuit) (k w : ℕ) : Type 0 where
+  pub grows : OnOk r (GrowsByGates old new)
   pub more : OnOk r (length old.cells ≤ length new.cells)
   pub few : OnOk r (length new.cells ≤ length old.cells + k)
   pub net : IfOk r (λ y. IsNet new.cells y.0 w)
@@ -37,8 +37,8 @@ pub record Adds {E : Type 0} (r : Result NetId E) (old new : Circuit) (k w : ℕ
 -- what was done before, and then such a call
 pub lowered : {E : Type 0} (from : ℕ) (ns : List NetTree) (nets : List (Option NetId)) (old mid new : Circuit) (r : Result NetId E) (k most w : ℕ)
     (e : ExprTree)
-    → Grows old mid → length old.cells ≤ length mid.cells → length mid.cells + k ≤ length old.cells + most → AreNets ns nets mid.cells
-    → Adds r mid new k w → IfOk r (λ y. Has from ns nets new.cells y.0 w e) → IfOk r (λ y. IsLowered from ns nets old new most y.0 w e)
+    → GrowsByGates old mid → length old.cells ≤ length mid.cells → length mid.cells + k ≤ length old.cells + most → AreNets ns nets mid.cells
+    → AddsNet r mid new k w → IfOk r (λ y. Has from ns nets new.cells y.0 w e) → IfOk r (λ y. IsLowered from ns nets old new most y.0 w e)
 lowered from ns nets old mid new (Ok y) k most w e before more room ready adds word =
     let m = adds.more in
     let f = adds.few in
@@ -68,11 +68,11 @@ fixed_weight k (concat_more a rest) h = absurd h
 module _ {E : Type 0} (from : ℕ) (ns : List NetTree) (nets : List (Option NetId)) where
   -- a call alone
   pub at_once : (old new : Circuit) (r : Result NetId E) (k most w : ℕ) (e : ExprTree) → k ≤ most → AreNets ns nets old.cells
-      → Adds r old new k w → IfOk r (λ y. Has from ns nets new.cells y.0 w e) → IfOk r (λ y. IsLowered from ns nets old new most y.0 w e)
+      → AddsNet r old new k w → IfOk r (λ y. Has from ns nets new.cells y.0 w e) → IfOk r (λ y. IsLowered from ns nets old new most y.0 w e)
   at_once old new r k most w e room ready adds word = lowered from ns nets old old new r k most w e (grows_refl old) (omega arith) (omega arith) ready adds word
 
   pub index_lowered : (old mid new : Circuit) (r : Result NetId E) (n : List ℕ) (x u w : ℕ) (a : ExprTree) → is_memory_name ns n ≡ true → u ≡ own_width ns a
-      → IsLowered from ns nets old mid (8 * expr_weight a + 1) x u a → Adds r mid new 2 w
+      → IsLowered from ns nets old mid (8 * expr_weight a + 1) x u a → AddsNet r mid new 2 w
       → IfOk r (λ y. (at : List ℕ → ℕ) (f : List Clock → ℕ → ℕ) → AreNamed ns nets at → IsWord from mid.cells x u f
       → IsWord from new.cells y.0 w (λ run t. get_or ((read at run t).store n) (f run t) 0))
       → IfOk r (λ y. IsLowered from ns nets old new (8 * expr_weight (index n a) + 1) y.0 w (index n a))
@@ -81,8 +81,9 @@ module _ {E : Type 0} (from : ℕ) (ns : List NetTree) (nets : List (Option NetI
       (index_arm from ns nets mid.cells new.cells r n x u w a memory own p.word word)
 
   pub not_lowered : (m0 m1 m2 m3 : Circuit) (r : Result NetId E) (x z u w : ℕ) (a : ExprTree) → u ≡ own_width ns a
-      → IsLowered from ns nets m0 m1 (8 * expr_weight a + 1) x u a → Grows m1 m2 → length m1.cells ≤ length m2.cells → length m2.cells ≤ length m1.cells + 2
-      → Adds r m2 m3 1 w
+      → IsLowered from ns nets m0 m1 (8 * expr_weight a + 1) x u a → GrowsByGates m1 m2 → length m1.cells ≤ length m2.cells
+      → length m2.cells ≤ length m1.cells + 2
+      → AddsNet r m2 m3 1 w
       → ((f : List Clock → ℕ → ℕ) → IsWord from m1.cells x u f → IsWord from m2.cells z 1 (λ run t. bit (f run t == 0)))
       → IfOk r (λ y. (f : List Clock → ℕ → ℕ) → IsWord from m2.cells z 1 f → IsWord from m3.cells y.0 w f)
       → IfOk r (λ y. IsLowered from ns nets m0 m3 (8 * expr_weight (unary Not a) + 1) y.0 w (unary Not a))
@@ -91,7 +92,7 @@ module _ {E : Type 0} (from : ℕ) (ns : List NetTree) (nets : List (Option NetI
       (not_arm from ns nets m1.cells m2.cells m3.cells r x z u w a own p.word zero word)
 
   pub flip_lowered : (m0 m1 m2 : Circuit) (r : Result NetId E) (x w : ℕ) (a : ExprTree)
-      → IsLowered from ns nets m0 m1 (8 * expr_weight a + 1) x w a → Adds r m1 m2 1 w
+      → IsLowered from ns nets m0 m1 (8 * expr_weight a + 1) x w a → AddsNet r m1 m2 1 w
       → IfOk r (λ y. (f g : List Clock → ℕ → ℕ) → IsWord from m1.cells x w f → IsWord from m1.cells x w g
       → IsWord from m2.cells y.0 w (λ run t. word_result op.Not w (f run t) (g run t) (f run t)))
       → IfOk r (λ y. IsLowered from ns nets m0 m2 (8 * expr_weight (unary Flip a) + 1) y.0 w (unary Flip a))
@@ -100,7 +101,7 @@ module _ {E : Type 0} (from : ℕ) (ns : List NetTree) (nets : List (Option NetI
       (flip_arm from ns nets m1.cells m2.cells r x w a p.word word)
 
   pub constant_lowered : (m0 m1 m2 : Circuit) (r : Result NetId E) (op : BinOp) (way : Way) (x k w : ℕ) (a b : ExprTree) → IsShiftForm op way → IsConstantOf k b
-      → IsLowered from ns nets m0 m1 (8 * expr_weight a + 1) x w a → Adds r m1 m2 1 w
+      → IsLowered from ns nets m0 m1 (8 * expr_weight a + 1) x w a → AddsNet r m1 m2 1 w
       → IfOk r (λ z. (f : List Clock → ℕ → ℕ) → IsWord from m1.cells x w f → IsWord from m2.cells z.0 w (λ run t. moved way w (f run t) k))
       → IfOk r (λ z. IsLowered from ns nets m0 m2 (8 * expr_weight (binary op a b) + 1) z.0 w (binary op a b))
   constant_lowered m0 m1 m2 r op way x k w a b form is p adds word =
@@ -112,7 +113,8 @@ module _ {E : Type 0} (from : ℕ) (ns : List NetTree) (nets : List (Option NetI
   pub binary_lowered : (m0 m1 m2 m3 : Circuit) (r : Result NetId E) (op : BinOp) (x y u v w : ℕ) (a b : ExprTree)
       → u ≡ left_width op w (own_width ns a) (own_width ns b) → v ≡ right_width op w (own_width ns a) (own_width ns b)
       → 8 * operator_weight op b ≡ most_cells op + 1
-      → IsLowered from ns nets m0 m1 (8 * expr_weight a + 1) x u a → IsLowered from ns nets m1 m2 (8 * expr_weight b + 1) y v b → Adds r m2 m3 (most_cells op) w
+      → IsLowered from ns nets m0 m1 (8 * expr_weight a + 1) x u a → IsLowered from ns nets m1 m2 (8 * expr_weight b + 1) y v b
+      → AddsNet r m2 m3 (most_cells op) w
       → IfOk r (λ z. (f g : List Clock → ℕ → ℕ) → IsWord from m2.cells x u f → IsWord from m2.cells y v g
       → IsWord from m3.cells z.0 w (λ run t. binary_result op w (f run t) (g run t)))
       → IfOk r (λ z. IsLowered from ns nets m0 m3 (8 * expr_weight (binary op a b) + 1) z.0 w (binary op a b))
@@ -122,7 +124,7 @@ module _ {E : Type 0} (from : ℕ) (ns : List NetTree) (nets : List (Option NetI
 
   pub choice_lowered : (m0 m1 m2 m3 m4 : Circuit) (r : Result NetId E) (k x y u w : ℕ) (test a b : ExprTree) → u ≡ own_width ns test
       → IsLowered from ns nets m0 m1 (8 * expr_weight test + 1) k u test → IsLowered from ns nets m1 m2 (8 * expr_weight a + 1) x w a
-      → IsLowered from ns nets m2 m3 (8 * expr_weight b + 1) y w b → Adds r m3 m4 3 w
+      → IsLowered from ns nets m2 m3 (8 * expr_weight b + 1) y w b → AddsNet r m3 m4 3 w
       → IfOk r (λ z. (h f g : List Clock → ℕ → ℕ) → IsWord from m3.cells k u h → IsWord from m3.cells x w f → IsWord from m3.cells y w g
       → IsWord from m4.cells z.0 w (λ run t. if h run t == 0 then g run t else f run t))
       → IfOk r (λ z. IsLowered from ns nets m0 m4 (8 * expr_weight (choice test a b) + 1) z.0 w (choice test a b))
@@ -131,7 +133,7 @@ module _ {E : Type 0} (from : ℕ) (ns : List NetTree) (nets : List (Option NetI
       (choice_arm from ns nets m1 m2 m3 m4 r k x y u w test a b own q.grows s.grows p.word q.word s.word word)
 
   pub concat_lowered : (m0 m1 m2 : Circuit) (r : Result NetId E) (x u w : ℕ) (ps : List ExprTree) → 1 ≤ length ps
-      → IsLowered from ns nets m0 m1 (8 * sum_by part_weight ps) x u (concat_of ps) → Adds r m1 m2 1 w
+      → IsLowered from ns nets m0 m1 (8 * sum_by part_weight ps) x u (concat_of ps) → AddsNet r m1 m2 1 w
       → IfOk r (λ y. (f : List Clock → ℕ → ℕ) → IsWord from m1.cells x u f → IsWord from m2.cells y.0 w f)
       → IfOk r (λ y. IsLowered from ns nets m0 m2 (8 * expr_weight (concat_of ps) + 1) y.0 w (concat_of ps))
   concat_lowered m0 m1 m2 r x u w ps some p adds word =

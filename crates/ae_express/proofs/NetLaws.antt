@@ -15,7 +15,7 @@ use Rattle.ae_vread.specs.ModuleTree.{NetTree, index, place}
 use Rattle.ae_judge.specs.Names.{is_memory_name, is_memory_kind, passes, depth_of, depth_in, depth_of_kind}
 use Rattle.ae_judge.specs.Widths.{declared_width}
 use Rattle.ae_runs.specs.Values.{ModuleClock, value_at}
-use Rattle.ae_gates.specs.Cells.{Grows, IsWord}
+use Rattle.ae_gates.specs.Cells.{GrowsByGates, IsWord}
 use Rattle.ae_order.proofs.SoundLaws.{named_width}
 use Rattle.ae_runs.specs.Named.{AreNamed, AreNets, IsNamed, StandsFor, place_of}
 
@@ -26,7 +26,7 @@ stands_later _ a b n w g h = g.nets n w h
 pub nets_keep : {ns : List NetTree} {nets : List (Option NetId)} {a b : List SizedCell} → Keeps a b → AreNets ns nets a → AreNets ns nets b
 nets_keep {ns} {nets} {a} {b} g h = record { long = h.long; each = λ p x y i j. stands_later x.kind a b y.0 x.width g (h.each p x y i j) }
 
-pub nets_grow : {ns : List NetTree} {nets : List (Option NetId)} {a b : Circuit} → Grows a b → AreNets ns nets a.cells → AreNets ns nets b.cells
+pub nets_grow : {ns : List NetTree} {nets : List (Option NetId)} {a b : Circuit} → GrowsByGates a b → AreNets ns nets a.cells → AreNets ns nets b.cells
 nets_grow g h = nets_keep (keeps_extends g.extends) h
 
 stands_word : (k : NetKind) (cells : List SizedCell) (n w : ℕ) → is_memory_kind k ≡ false → StandsFor k cells n w → IsNet cells n w

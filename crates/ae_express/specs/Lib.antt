@@ -1,4 +1,3 @@
-pub use Rattle.ae_gates.specs.Cells
 pub mod Forms
 pub mod Parts
 pub mod Lowered

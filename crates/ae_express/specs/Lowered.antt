@@ -5,14 +5,14 @@ use Rattle.ae_netlist.specs.Circuit.{Circuit, IsNet}
 use Rattle.ae_vread.specs.ModuleTree.{ExprTree, NetTree}
 use Rattle.ae_judge.specs.Widths.{own_width}
 use Rattle.ae_runs.specs.Values.{ModuleClock, value_at}
-use Rattle.ae_gates.specs.Cells.{Grows, IsWord}
+use Rattle.ae_gates.specs.Cells.{GrowsByGates, IsWord}
 use Rattle.ae_runs.specs.Named.{AreNamed, AreNets, read}
 
 -- the netlist has grown by at most so many cells, the nets of names stand for them as before, and net y has the value of
 -- the expression that is computed at width w
 pub record IsLowered (from : ℕ) (ns : List NetTree) (ys : List (Option NetId)) (old new : Circuit) (most y w : ℕ)
     (e : ExprTree) : Type 0 where
-  pub grows : Grows old new
+  pub grows : GrowsByGates old new
   pub more : length old.cells ≤ length new.cells
   pub few : length new.cells ≤ length old.cells + most
   pub net : IsNet new.cells y w

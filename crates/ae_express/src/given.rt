@@ -7,7 +7,7 @@ ghost use Rattle.ae_judge.specs.Weight.{expr_weight};
 ghost use Rattle.ae_judge.specs.Widths.{own_width};
 ghost use Rattle.ae_runs.specs.Named.{AreNamed, AreNets, read};
 ghost use Rattle.ae_order.specs.Sound.{IsReadyFor, IsSound};
-ghost use Rattle.ae_gates.specs.Cells.{Grows, HasRoom, IsWord};
+ghost use Rattle.ae_gates.specs.Cells.{GrowsByGates, HasRoom, IsWord};
 ghost use Rattle.ae_express.specs.Lowered.{IsLowered, fitted};
 
 use crate::expressions::lower;
@@ -84,7 +84,7 @@ pub fn given_word(
     requires low { 1 ≤ width }
     requires high { width ≤ 64 }
     requires room { HasRoom nl.old (8 * expr_weight (expr_tree e.now) + 2) }
-    ensures grows { OnOk result (Grows nl.old nl.new) }
+    ensures grows { OnOk result (GrowsByGates nl.old nl.new) }
     ensures more { OnOk result (length nl.old.cells ≤ length nl.new.cells) }
     ensures few { OnOk result (length nl.new.cells ≤ length nl.old.cells + 8 * expr_weight (expr_tree e.now) + 2) }
     ensures net { IfOk result (λ y. IsNet nl.new.cells y.0 width) }

@@ -7,7 +7,7 @@ ghost use Rattle.ae_vread.specs.ModuleTree.{index as index_tree, name as name_tr
 ghost use Rattle.ae_judge.specs.Names.{depth_of, is_memory_name};
 ghost use Rattle.ae_judge.specs.Widths.{declared_width};
 ghost use Rattle.ae_runs.specs.Values.{value_at};
-ghost use Rattle.ae_gates.specs.Cells.{Grows, HasRoom, IsWord};
+ghost use Rattle.ae_gates.specs.Cells.{GrowsByGates, HasRoom, IsWord};
 ghost use Rattle.ae_runs.specs.Named.{AreNamed, AreNets, IsNamed, IsReady, place_of, read};
 ghost use Rattle.ae_order.specs.Sound.{IsWordName, places_of};
 
@@ -47,7 +47,7 @@ pub fn read_name(
     requires high { w ≤ 64 }
     requires within { declared_width names.now name.now ≤ w }
     requires room { HasRoom nl.old 1 }
-    ensures grows { OnOk result (Grows nl.old nl.new) }
+    ensures grows { OnOk result (GrowsByGates nl.old nl.new) }
     ensures more { OnOk result (length nl.old.cells ≤ length nl.new.cells) }
     ensures few { OnOk result (length nl.new.cells ≤ length nl.old.cells + 1) }
     ensures net { IfOk result (λ y. IsNet nl.new.cells y.0 w) }
@@ -79,7 +79,7 @@ pub fn read_part(
     requires most { w ≤ 64 }
     requires within { high - low + 1 ≤ w }
     requires room { HasRoom nl.old 3 }
-    ensures grows { OnOk result (Grows nl.old nl.new) }
+    ensures grows { OnOk result (GrowsByGates nl.old nl.new) }
     ensures more { OnOk result (length nl.old.cells ≤ length nl.new.cells) }
     ensures few { OnOk result (length nl.new.cells ≤ length nl.old.cells + 3) }
     ensures net { IfOk result (λ y. IsNet nl.new.cells y.0 w) }
@@ -107,7 +107,7 @@ fn peek(
     requires memory { IsMemory nl.old.cells memory.0 width _depth }
     requires address { IsAddress nl.old.cells at.0 _depth }
     requires room { HasRoom nl.old 1 }
-    ensures grows { OnOk result (Grows nl.old nl.new) }
+    ensures grows { OnOk result (GrowsByGates nl.old nl.new) }
     ensures more { OnOk result (length nl.old.cells ≤ length nl.new.cells) }
     ensures few { OnOk result (length nl.new.cells ≤ length nl.old.cells + 1) }
     ensures net { IfOk result (λ y. IsNet nl.new.cells y.0 width) }
@@ -122,7 +122,7 @@ pub fn address(nl: &mut Netlist, from: u32, place: u32) -> Result<NetId, AllocEr
     requires from { from ≤ length nl.old.cells }
     requires below { place < 65536 }
     requires room { HasRoom nl.old 1 }
-    ensures grows { OnOk result (Grows nl.old nl.new) }
+    ensures grows { OnOk result (GrowsByGates nl.old nl.new) }
     ensures more { OnOk result (length nl.old.cells ≤ length nl.new.cells) }
     ensures few { OnOk result (length nl.new.cells ≤ length nl.old.cells + 1) }
     ensures net { IfOk result (λ y. IsNet nl.new.cells y.0 16) }
@@ -151,7 +151,7 @@ pub fn read_place(
     requires high { w ≤ 64 }
     requires within { (if is_memory_name names.now name.now then declared_width names.now name.now else 1) ≤ w }
     requires room { HasRoom nl.old 3 }
-    ensures grows { OnOk result (Grows nl.old nl.new) }
+    ensures grows { OnOk result (GrowsByGates nl.old nl.new) }
     ensures more { OnOk result (length nl.old.cells ≤ length nl.new.cells) }
     ensures few { OnOk result (length nl.new.cells ≤ length nl.old.cells + 3) }
     ensures net { IfOk result (λ y. IsNet nl.new.cells y.0 w) }
@@ -190,7 +190,7 @@ pub fn read_word(
     requires high { w ≤ 64 }
     requires within { declared_width names.now name.now ≤ w }
     requires room { HasRoom nl.old 2 }
-    ensures grows { OnOk result (Grows nl.old nl.new) }
+    ensures grows { OnOk result (GrowsByGates nl.old nl.new) }
     ensures more { OnOk result (length nl.old.cells ≤ length nl.new.cells) }
     ensures few { OnOk result (length nl.new.cells ≤ length nl.old.cells + 2) }
     ensures net { IfOk result (λ y. IsNet nl.new.cells y.0 w) }

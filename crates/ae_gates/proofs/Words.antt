@@ -17,7 +17,7 @@ use Rattle.ae_netlist.proofs.Growing.{net_later, net_width, extends_append, exte
 use Rattle.ae_netlist.proofs.Carried.{const_word, op_word, carries_later, carries_trans, carries_extends}
 use Rattle.ae_runs.specs.SameRuns.{is_input_cell, is_state_cell}
 use Rattle.ae_runs.proofs.Fits.{net_fits}
-use Rattle.ae_gates.specs.Cells.{Grows, IsWord}
+use Rattle.ae_gates.specs.Cells.{GrowsByGates, IsWord}
 
 -- a cell that does not pass is left out
 pub left_out : (test : Cell → Bool) (k : ℕ) (cells : List SizedCell) (c : SizedCell) → test c.cell ≡ false
@@ -29,7 +29,7 @@ left_out test k (x ∷ cells) c h =
 
 -- how a netlist grows by a cell, and by more
 pub grows_push : (old new : Circuit) (c : SizedCell) → is_input_cell c.cell ≡ false → is_state_cell c.cell ≡ false
-    → new ≡ record old { cells = old.cells ++ c ∷ [] } → Grows old new
+    → new ≡ record old { cells = old.cells ++ c ∷ [] } → GrowsByGates old new
 grows_push old new c i s e = rw e (record {
   extends = extends_append old.cells (c ∷ []);
   limit = refl;
@@ -38,10 +38,10 @@ grows_push old new c i s e = rw e (record {
   states = left_out is_state_cell 0 old.cells c s;
 })
 
-pub grows_refl : (a : Circuit) → Grows a a
+pub grows_refl : (a : Circuit) → GrowsByGates a a
 grows_refl a = record { extends = extends_refl a.cells; limit = refl; outlets = refl; inputs = refl; states = refl }
 
-pub grows_trans : {a b c : Circuit} → Grows a b → Grows b c → Grows a c
+pub grows_trans : {a b c : Circuit} → GrowsByGates a b → GrowsByGates b c → GrowsByGates a c
 grows_trans p q = record {
   extends = extends_trans p.extends q.extends;
   limit = q.limit ∙ p.limit;
@@ -50,7 +50,7 @@ grows_trans p q = record {
   states = q.states ∙ p.states;
 }
 
-pub net_grows : {a b : Circuit} {n w : ℕ} → Grows a b → IsNet a.cells n w → IsNet b.cells n w
+pub net_grows : {a b : Circuit} {n w : ℕ} → GrowsByGates a b → IsNet a.cells n w → IsNet b.cells n w
 net_grows g h = net_later g.extends h
 
 pub longer : (old new : Circuit) (c : SizedCell) → new ≡ record old { cells = old.cells ++ c ∷ [] } → length new.cells ≡ length old.cells + 1
@@ -61,11 +61,11 @@ pub pushed_net : (old new : Circuit) (y : NetId) (w : ℕ) (cell : Cell) → IsP
 pushed_net old new y w cell p i e = rw (e, i) (record { sized = record { width = w; cell = cell }; found = get_pushed old.cells _; plain = p; wide = refl })
 
 -- what carries the later cells carries the earlier
-pub back : {a b : Circuit} {all : List SizedCell} {from : ℕ} → Grows a b → Carries from b.cells all → Carries from a.cells all
+pub back : {a b : Circuit} {all : List SizedCell} {from : ℕ} → GrowsByGates a b → Carries from b.cells all → Carries from a.cells all
 back {from} g k = carries_trans (carries_extends from g.extends) k
 
 -- a word stays what it is as the netlist grows
-pub word_grows : {from n w : ℕ} {a b : Circuit} {f : List Clock → ℕ → ℕ} → Grows a b → IsWord from a.cells n w f → IsWord from b.cells n w f
+pub word_grows : {from n w : ℕ} {a b : Circuit} {f : List Clock → ℕ → ℕ} → GrowsByGates a b → IsWord from a.cells n w f → IsWord from b.cells n w f
 word_grows g h = record { found = net_grows g h.found; words = λ all k run is t l. h.words all (back g k) run is t l }
 
 operands_two : (op : WordOp) (P : ℕ → ℕ → Type 0) (a b : NetId) (w : ℕ) → op ≢ Mux → P a.0 w → P b.0 w → OperandsAre op P (a ∷ b ∷ a ∷ []) w
@@ -148,7 +148,7 @@ pub same_word : {from n w : ℕ} {cells : List SizedCell} (f g : List Clock → 
     → IsWord from cells n w g
 same_word f g e h = word_by f g (λ all k run is t l. e run t) h
 
-pub widen_word : (from : ℕ) (old new : Circuit) (x y own w : ℕ) → own ≤ w → Grows old new → (f : List Clock → ℕ → ℕ) → IsWord from old.cells x own f
+pub widen_word : (from : ℕ) (old new : Circuit) (x y own w : ℕ) → own ≤ w → GrowsByGates old new → (f : List Clock → ℕ → ℕ) → IsWord from old.cells x own f
     → IsWord from new.cells y w (λ run t. f run t % 2 ^ w) → IsWord from new.cells y w f
 widen_word from old new x y own w le grows f p q =
     word_by (λ run t. f run t % 2 ^ w) f

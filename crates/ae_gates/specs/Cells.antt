@@ -6,7 +6,7 @@ use Rattle.ae_netlist.specs.Runs.{Clock, word_at, InEveryRunFrom}
 use Rattle.ae_runs.specs.SameRuns.{input_cells, state_cells}
 
 -- a netlist that has grown: what was there has not changed, and no input, register, memory or output was added
-pub record Grows (old new : Circuit) : Type 0 where
+pub record GrowsByGates (old new : Circuit) : Type 0 where
   pub extends : Extends old.cells new.cells
   pub limit : new.limit ≡ old.limit
   pub outlets : new.outlets ≡ old.outlets

@@ -4,7 +4,7 @@ ghost use Rattle.std.specs.Prelude.{◌≡◌, ◌≢◌, ◌<◌, ◌≤◌, �
 ghost use Rattle.ae_word.specs.WordTable.{HasRange, bit, is_signed, result_width_of, word_result};
 ghost use Rattle.ae_netlist.specs.Circuit.{IsNet};
 ghost use Rattle.ae_netlist.specs.Runs.{Clock};
-ghost use Rattle.ae_gates.specs.Cells.{AreBelow, Grows, HasRoom, IsWord};
+ghost use Rattle.ae_gates.specs.Cells.{AreBelow, GrowsByGates, HasRoom, IsWord};
 ghost use Rattle.ae_gates.specs.Shifts.{moved};
 
 use crate::gates::{fixed, gate, select, widen};
@@ -33,7 +33,7 @@ pub fn compared(
     requires low { 1 ≤ width }
     requires high { width ≤ 64 }
     requires room { HasRoom nl.old 2 }
-    ensures grows { OnOk result (Grows nl.old nl.new) }
+    ensures grows { OnOk result (GrowsByGates nl.old nl.new) }
     ensures more { OnOk result (length nl.old.cells ≤ length nl.new.cells) }
     ensures few { OnOk result (length nl.new.cells ≤ length nl.old.cells + 2) }
     ensures net { IfOk result (λ y. IsNet nl.new.cells y.0 width) }
@@ -65,7 +65,7 @@ pub fn opposed(
     requires low { 1 ≤ width }
     requires high { width ≤ 64 }
     requires room { HasRoom nl.old 3 }
-    ensures grows { OnOk result (Grows nl.old nl.new) }
+    ensures grows { OnOk result (GrowsByGates nl.old nl.new) }
     ensures more { OnOk result (length nl.old.cells ≤ length nl.new.cells) }
     ensures few { OnOk result (length nl.new.cells ≤ length nl.old.cells + 3) }
     ensures net { IfOk result (λ y. IsNet nl.new.cells y.0 width) }
@@ -85,7 +85,7 @@ pub fn is_zero(nl: &mut Netlist, from: u32, a: NetId, own: u32) -> Result<NetId,
     requires high { own ≤ 64 }
     requires net { IsNet nl.old.cells a.0 own }
     requires room { HasRoom nl.old 2 }
-    ensures grows { OnOk result (Grows nl.old nl.new) }
+    ensures grows { OnOk result (GrowsByGates nl.old nl.new) }
     ensures more { OnOk result (length nl.old.cells ≤ length nl.new.cells) }
     ensures few { OnOk result (length nl.new.cells ≤ length nl.old.cells + 2) }
     ensures net { IfOk result (λ y. IsNet nl.new.cells y.0 1) }
@@ -122,7 +122,7 @@ pub fn tested(
     requires low { 1 ≤ width }
     requires high { width ≤ 64 }
     requires room { HasRoom nl.old 7 }
-    ensures grows { OnOk result (Grows nl.old nl.new) }
+    ensures grows { OnOk result (GrowsByGates nl.old nl.new) }
     ensures more { OnOk result (length nl.old.cells ≤ length nl.new.cells) }
     ensures few { OnOk result (length nl.new.cells ≤ length nl.old.cells + 7) }
     ensures net { IfOk result (λ y. IsNet nl.new.cells y.0 width) }
@@ -154,7 +154,7 @@ pub fn chosen(
     requires low { 1 ≤ width }
     requires high { width ≤ 64 }
     requires room { HasRoom nl.old 3 }
-    ensures grows { OnOk result (Grows nl.old nl.new) }
+    ensures grows { OnOk result (GrowsByGates nl.old nl.new) }
     ensures more { OnOk result (length nl.old.cells ≤ length nl.new.cells) }
     ensures few { OnOk result (length nl.new.cells ≤ length nl.old.cells + 3) }
     ensures net { IfOk result (λ y. IsNet nl.new.cells y.0 width) }
@@ -184,7 +184,7 @@ pub fn cut(
     requires within { count ≤ width }
     requires net { IsNet nl.old.cells x.0 own }
     requires room { HasRoom nl.old 3 }
-    ensures grows { OnOk result (Grows nl.old nl.new) }
+    ensures grows { OnOk result (GrowsByGates nl.old nl.new) }
     ensures more { OnOk result (length nl.old.cells ≤ length nl.new.cells) }
     ensures few { OnOk result (length nl.new.cells ≤ length nl.old.cells + 3) }
     ensures net { IfOk result (λ y. IsNet nl.new.cells y.0 width) }
@@ -212,7 +212,7 @@ pub fn linked(
     requires left { IsNet nl.old.cells a.0 wa }
     requires right { IsNet nl.old.cells b.0 wb }
     requires room { HasRoom nl.old 4 }
-    ensures grows { OnOk result (Grows nl.old nl.new) }
+    ensures grows { OnOk result (GrowsByGates nl.old nl.new) }
     ensures more { OnOk result (length nl.old.cells ≤ length nl.new.cells) }
     ensures few { OnOk result (length nl.new.cells ≤ length nl.old.cells + 4) }
     ensures net { IfOk result (λ y. IsNet nl.new.cells y.0 (wa + wb)) }
@@ -261,7 +261,7 @@ pub fn moved_by(
     requires low { 1 ≤ width }
     requires high { width ≤ 64 }
     requires room { HasRoom nl.old 1 }
-    ensures grows { OnOk result (Grows nl.old nl.new) }
+    ensures grows { OnOk result (GrowsByGates nl.old nl.new) }
     ensures more { OnOk result (length nl.old.cells ≤ length nl.new.cells) }
     ensures few { OnOk result (length nl.new.cells ≤ length nl.old.cells + 1) }
     ensures net { IfOk result (λ y. IsNet nl.new.cells y.0 width) }
@@ -301,7 +301,7 @@ fn stage(
     requires net { IsNet nl.old.cells x.0 width }
     requires amount { IsNet nl.old.cells by.0 own }
     requires room { HasRoom nl.old 5 }
-    ensures grows { OnOk result (Grows nl.old nl.new) }
+    ensures grows { OnOk result (GrowsByGates nl.old nl.new) }
     ensures more { OnOk result (length nl.old.cells ≤ length nl.new.cells) }
     ensures few { OnOk result (length nl.new.cells ≤ length nl.old.cells + 5) }
     ensures net { IfOk result (λ y. IsNet nl.new.cells y.0 width) }
@@ -333,7 +333,7 @@ fn ended(
     requires net { IsNet nl.old.cells x.0 width }
     requires amount { IsNet nl.old.cells by.0 own }
     requires room { HasRoom nl.old 5 }
-    ensures grows { OnOk result (Grows nl.old nl.new) }
+    ensures grows { OnOk result (GrowsByGates nl.old nl.new) }
     ensures more { OnOk result (length nl.old.cells ≤ length nl.new.cells) }
     ensures few { OnOk result (length nl.new.cells ≤ length nl.old.cells + 5) }
     ensures net { IfOk result (λ y. IsNet nl.new.cells y.0 width) }
@@ -364,7 +364,7 @@ pub fn shifted(
     requires net { IsNet nl.old.cells x.0 width }
     requires amount { IsNet nl.old.cells by.0 own }
     requires room { HasRoom nl.old 35 }
-    ensures grows { OnOk result (Grows nl.old nl.new) }
+    ensures grows { OnOk result (GrowsByGates nl.old nl.new) }
     ensures more { OnOk result (length nl.old.cells ≤ length nl.new.cells) }
     ensures few { OnOk result (length nl.new.cells ≤ length nl.old.cells + 35) }
     ensures net { IfOk result (λ y. IsNet nl.new.cells y.0 width) }

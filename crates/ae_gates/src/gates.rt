@@ -4,7 +4,7 @@ ghost use Rattle.std.specs.Prelude.{◌≡◌, ◌≢◌, ◌<◌, ◌≤◌, �
 ghost use Rattle.ae_word.specs.WordTable.{HasRange, is_signed, result_width_of, word_result};
 ghost use Rattle.ae_netlist.specs.Circuit.{IsNet};
 ghost use Rattle.ae_netlist.specs.Runs.{Clock};
-ghost use Rattle.ae_gates.specs.Cells.{Grows, HasRoom, IsWord};
+ghost use Rattle.ae_gates.specs.Cells.{GrowsByGates, HasRoom, IsWord};
 
 use ae_netlist::{Cell, NetId, Netlist};
 use ae_word::{Width, WordOp};
@@ -17,7 +17,7 @@ pub fn fixed(nl: &mut Netlist, from: u32, width: u32, word: u64) -> Result<NetId
     requires high { width ≤ 64 }
     requires fits { word < 2 ^ width }
     requires room { HasRoom nl.old 1 }
-    ensures grows { OnOk result (Grows nl.old nl.new) }
+    ensures grows { OnOk result (GrowsByGates nl.old nl.new) }
     ensures more { OnOk result (length nl.old.cells ≤ length nl.new.cells) }
     ensures few { OnOk result (length nl.new.cells ≤ length nl.old.cells + 1) }
     ensures net { IfOk result (λ y. IsNet nl.new.cells y.0 width) }
@@ -47,7 +47,7 @@ pub fn gate(
     requires right { IsNet nl.old.cells b.0 width }
     requires result { wide ≡ result_width_of op width }
     requires room { HasRoom nl.old 1 }
-    ensures grows { OnOk result (Grows nl.old nl.new) }
+    ensures grows { OnOk result (GrowsByGates nl.old nl.new) }
     ensures more { OnOk result (length nl.old.cells ≤ length nl.new.cells) }
     ensures few { OnOk result (length nl.new.cells ≤ length nl.old.cells + 1) }
     ensures net { IfOk result (λ y. IsNet nl.new.cells y.0 wide) }
@@ -73,7 +73,7 @@ pub fn select(
     requires left { IsNet nl.old.cells a.0 width }
     requires right { IsNet nl.old.cells b.0 width }
     requires room { HasRoom nl.old 1 }
-    ensures grows { OnOk result (Grows nl.old nl.new) }
+    ensures grows { OnOk result (GrowsByGates nl.old nl.new) }
     ensures more { OnOk result (length nl.old.cells ≤ length nl.new.cells) }
     ensures few { OnOk result (length nl.new.cells ≤ length nl.old.cells + 1) }
     ensures net { IfOk result (λ y. IsNet nl.new.cells y.0 width) }
@@ -97,7 +97,7 @@ pub fn widen(
     requires net { IsNet nl.old.cells x.0 own }
     requires within { own ≤ width }
     requires room { HasRoom nl.old 1 }
-    ensures grows { OnOk result (Grows nl.old nl.new) }
+    ensures grows { OnOk result (GrowsByGates nl.old nl.new) }
     ensures more { OnOk result (length nl.old.cells ≤ length nl.new.cells) }
     ensures few { OnOk result (length nl.new.cells ≤ length nl.old.cells + 1) }
     ensures net { IfOk result (λ y. IsNet nl.new.cells y.0 width) }
@@ -117,7 +117,7 @@ pub fn fit(nl: &mut Netlist, from: u32, x: NetId, own: u32, width: u32) -> Resul
     requires high { width ≤ 64 }
     requires net { IsNet nl.old.cells x.0 own }
     requires room { HasRoom nl.old 1 }
-    ensures grows { OnOk result (Grows nl.old nl.new) }
+    ensures grows { OnOk result (GrowsByGates nl.old nl.new) }
     ensures more { OnOk result (length nl.old.cells ≤ length nl.new.cells) }
     ensures few { OnOk result (length nl.new.cells ≤ length nl.old.cells + 1) }
     ensures net { IfOk result (λ y. IsNet nl.new.cells y.0 width) }

@@ -5,9 +5,9 @@ use Rattle.ae_vread.specs.Spells.{Spells}
 use Rattle.ae_vread.specs.Forms.{module_tokens}
 use Rattle.ae_vread.specs.ItemReading.{read_module}
 use Rattle.ae_vread.proofs.ReadLaws.{spelled_read}
-use Rattle.ae_elab.specs.Faults.{IsWellFormed}
-use Rattle.ae_elab.specs.PlainRun.{plain_run}
-use Rattle.ae_elab.specs.Runs.{HasOneModuleRun}
+use Rattle.ae_judge.specs.Faults.{IsWellFormed}
+use Rattle.ae_runs.specs.PlainRun.{plain_run}
+use Rattle.ae_runs.specs.Runs.{HasOneModuleRun}
 use Rattle.ae_runs.proofs.Once.{only_one}
 use Rattle.ae_runs.proofs.Made.{plain_is_run}
 use Rattle.ae_verilog.specs.Notes.{lines_of, noted_module}

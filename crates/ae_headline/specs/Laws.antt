@@ -9,8 +9,8 @@ use Rattle.ae_delay.specs.declared.own.OwnCosts.{OwnCosts}
 use Rattle.ae_netlist.specs.Circuit.{Circuit}
 use Rattle.ae_vread.specs.ModuleTree.{ModuleTree}
 use Rattle.ae_vread.specs.Spells.{Spells}
-use Rattle.ae_elab.specs.Faults.{IsWellFormed}
-use Rattle.ae_elab.specs.Runs.{HasOneModuleRun}
+use Rattle.ae_judge.specs.Faults.{IsWellFormed}
+use Rattle.ae_runs.specs.Runs.{HasOneModuleRun}
 use Rattle.ae_ports.specs.CircuitFor.{IsCircuitFor}
 use Rattle.ae_verilog.specs.ReportLines.{ReportTree, report_lines}
 use Rattle.ae_verilog.specs.Notes.{NoteTree, ArePrinted}
@@ -18,7 +18,7 @@ use Rattle.ae_verilog.specs.Text.{whole_text}
 use Rattle.ae_verilog.specs.Written.{IsWritableNetlist}
 use Rattle.ae_correct.specs.Correct.{IsCorrect}
 use Rattle.ae_correct.specs.Laws.{IsLaidOut}
-use Rattle.ae_parse.specs.Grammar.{IsProgramText}
+use Rattle.ae_fields.specs.Grammar.{IsProgramText}
 use Rattle.ae_headline.specs.Listing.{listing}
 use Rattle.ae_headline.specs.Headline.{AreNotes, HasPorts, IsProgramListing}
 

@@ -5,7 +5,7 @@ use Rattle.ae_jobs.specs.declared.status.Status.{Status}
 use Rattle.ae_jobs.specs.declared.status.Status.TheVariants.{Ok, Usage, BadLine, BadType, TooLarge, NoSchedule, BadWords, BadModule, LongRun, ReadFault, WriteFault, TooLong, Memory, BadWave, NotMoves}
 use Rattle.ae_compile.specs.Costing.{HasCosts, HasLargeLoad, IsCostFault, costs_over}
 use Rattle.ae_seq.specs.Typing.{refused_line as refused_line_of}
-use Rattle.ae_parse.specs.Grammar.{IsProgramText as Reads, line_refused, program}
+use Rattle.ae_fields.specs.Grammar.{IsProgramText as Reads, line_refused, program}
 use Rattle.ae_compile.specs.Programs.{IsTypedText}
 use Rattle.ae_jobs.specs.Programs.{IsRefusal}
 use Rattle.ae_rewrite.specs.Scheduled.{IsSchedule}

@@ -6,7 +6,7 @@ use Rattle.std.specs.Fmt.{decimal}
 use Rattle.ae_word.specs.AtomTree.{WordKind, unsigned_word}
 use Rattle.ae_seqtype.specs.SeqTree.{atom, seq, kinds}
 use Rattle.ae_seq.specs.ProgramTree.{ProgramTree}
-use Rattle.ae_parse.specs.Grammar.{IsProgramText as Reads, program}
+use Rattle.ae_fields.specs.Grammar.{IsProgramText as Reads, program}
 use Rattle.ae_print.specs.Printed.{program_text, text_of}
 use Rattle.ae_rewrite.specs.Scheduled.{IsSchedule}
 use Rattle.ae_rewrite.specs.StProgramTree.{StFuncTree}

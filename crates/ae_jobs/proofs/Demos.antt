@@ -8,8 +8,8 @@ use Rattle.std.proofs.lemmas.Bool.{le-leb, lt-ltb}
 use Rattle.std.proofs.lemmas.Fmt.{decimal_nonempty, digits_decimal, digits_value-decimal, length-decimal-le}
 use Rattle.std.proofs.lemmas.List.{length-drop, length-map, length-take-le, nil_from_length, take-append-drop}
 use Rattle.std.proofs.lemmas.List.FromFn.{length-map-range_with_len, map-range_with_len_more}
-use Rattle.ae_parse.specs.Number.{is_numeral}
-use Rattle.ae_parse.specs.Rows.{bad_row, is_right, row_words, words_in, wrong_column, wrong_row}
+use Rattle.ae_fields.specs.Number.{is_numeral}
+use Rattle.ae_fields.specs.Rows.{bad_row, is_right, row_words, words_in, wrong_column, wrong_row}
 use Rattle.ae_fields.proofs.PlainLemmas.{own}
 use Rattle.ae_seqtype.specs.ValueTree.{cut}
 use Rattle.ae_seqtype.proofs.Cuts.{length-cut}

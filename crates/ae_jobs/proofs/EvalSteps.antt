@@ -17,7 +17,7 @@ use Rattle.ae_seqtype.proofs.Stands.{length-FitKinds, FitKinds-split}
 use Rattle.ae_seq.specs.ProgramTree.{ProgramTree}
 use Rattle.ae_seq.specs.Typing.{type_at}
 use Rattle.ae_seq.specs.Meaning.{mean}
-use Rattle.ae_parse.specs.Rows.{is_right, wrong_column, wrong_row, bad_row, row_words, words_in}
+use Rattle.ae_fields.specs.Rows.{is_right, wrong_column, wrong_row, bad_row, row_words, words_in}
 use Rattle.ae_eval.specs.Stack.{AllFit, FitIn, IsTyped, kinds_of, values_in, values_of, words_of}
 use Rattle.ae_eval.specs.Lines.{input_types}
 use Rattle.ae_eval.proofs.Framing.{length-FitIn}

@@ -7,7 +7,7 @@ use Rattle.ae_seqtype.specs.ValueTree.{FitKinds}
 use Rattle.ae_seqtype.proofs.Stands.{FitKinds-append}
 use Rattle.ae_sttype.specs.StTree.{StTree, element_atom}
 use Rattle.ae_seq.specs.ProgramTree.{ProgramTree}
-use Rattle.ae_parse.specs.Rows.{row_words, words_in}
+use Rattle.ae_fields.specs.Rows.{row_words, words_in}
 use Rattle.ae_eval.specs.Stack.{IsTyped, kinds_of}
 use Rattle.ae_eval.specs.Lines.{input_types}
 use Rattle.ae_flow.proofs.MeaningLayouts.{AllLaidOut, LaysOut}

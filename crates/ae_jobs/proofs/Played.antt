@@ -9,7 +9,7 @@ use Rattle.ae_seqtype.specs.ValueTree.{cut, flat}
 use Rattle.ae_seqtype.proofs.Sizes.{length-kinds}
 use Rattle.ae_seqtype.proofs.Values.{flat-value_of}
 use Rattle.ae_sttype.specs.StTree.{StTree, st_atoms, element_words}
-use Rattle.ae_parse.specs.Rows.{row_words, words_in}
+use Rattle.ae_fields.specs.Rows.{row_words, words_in}
 use Rattle.ae_flow.proofs.MeaningLayouts.{AllLaidOut, layout-size}
 use Rattle.ae_play.specs.Fed.{size_of}
 use Rattle.ae_play.specs.Fed as fed

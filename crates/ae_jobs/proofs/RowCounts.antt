@@ -1,8 +1,8 @@
 -- How many rows a text has, and sizes by rows.
 use Rattle.std.proofs.Common.{ℕ, zero, suc, ◌≡◌, ◌+◌, ◌*◌, ◌/◌, ◌<◌, ◌≤◌, List, [], ◌∷◌, length, Bool, true, false, nat_eq, if◌then◌else◌, arith, ap, ◌∙◌}
 use Rattle.std.proofs.lemmas.Nat.{div-mul-add}
-use Rattle.ae_parse.specs.Cut.{lines, put, fields, said}
-use Rattle.ae_parse.specs.Rows.{rows, rows_of, with_row}
+use Rattle.ae_fields.specs.Cut.{lines, put, fields, said}
+use Rattle.ae_fields.specs.Rows.{rows, rows_of, with_row}
 
 pub few_put : (b : ℕ) (ls : List (List ℕ)) (n : ℕ) → length ls ≤ n → length (put b ls) ≤ suc n
 few_put b [] n h = omega arith

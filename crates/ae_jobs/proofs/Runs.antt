@@ -2,7 +2,7 @@
 use Rattle.std.proofs.Common.{◌≡◌, ℕ, ◌+◌, ◌*◌, ◌/◌, ◌^◌, ◌<◌, ◌≤◌, List, length, None, refl, ap, sym, ◌∙◌, subst, arith}
 use Rattle.ae_seq.specs.ProgramTree.{ProgramTree}
 use Rattle.ae_eval.specs.Stack.{IsTyped}
-use Rattle.ae_parse.specs.Rows.{rows, bad_row, words_in}
+use Rattle.ae_fields.specs.Rows.{rows, bad_row, words_in}
 use Rattle.ae_rewrite.specs.StProgramTree.{StFuncTree}
 use Rattle.ae_delay.specs.declared.own.OwnCosts.{OwnCosts}
 use Rattle.ae_play.specs.Lines.{clock_count}

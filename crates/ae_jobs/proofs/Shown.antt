@@ -8,7 +8,7 @@ use Rattle.ae_seqtype.specs.ValueTree.{ValueTree, cut, flat}
 use Rattle.ae_seqtype.proofs.Stands.{length-FitKinds}
 use Rattle.ae_sttype.specs.StTree.{StTree, time}
 use Rattle.ae_seq.specs.ProgramTree.{ProgramTree}
-use Rattle.ae_parse.specs.Rows.{row_words, words_in}
+use Rattle.ae_fields.specs.Rows.{row_words, words_in}
 use Rattle.ae_eval.specs.Stack.{FitIn, IsTyped, kinds_of}
 use Rattle.ae_eval.specs.Lines.{input_types}
 use Rattle.ae_eval.proofs.Items.{drop-at}

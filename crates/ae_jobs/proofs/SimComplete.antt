@@ -4,7 +4,7 @@ use Rattle.std.proofs.lemmas.Option.{none-some}
 use Rattle.ae_vread.specs.ModuleTree.{ModuleTree}
 use Rattle.ae_judge.specs.declared.fault.ElabFault.{ElabFault}
 use Rattle.ae_judge.specs.declared.fault.ElabFault.TheVariants as e
-use Rattle.ae_elab.specs.Faults.{IsFault, IsWellFormed}
+use Rattle.ae_judge.specs.Faults.{IsFault, IsWellFormed}
 use Rattle.ae_jobs.specs.declared.status.VFaultKind.{VFaultKind}
 use Rattle.ae_jobs.specs.declared.status.Status.{Status}
 use Rattle.ae_jobs.specs.declared.status.Status.TheVariants.{Ok, Usage, BadLine, BadType, TooLarge, NoSchedule, BadWords, BadModule, LongRun, ReadFault, WriteFault, TooLong, Memory, BadWave, NotMoves}

@@ -4,18 +4,18 @@ use Rattle.std.specs.List.{count_by}
 use Rattle.std.proofs.lemmas.List.{length-map, get_or-map}
 use Rattle.std.proofs.lemmas.List.Elements.{All-get_or}
 use Rattle.std.proofs.lemmas.List.Sums.{length-filter, count_by-le-length}
-use Rattle.ae_parse.specs.Rows.{bad_row}
+use Rattle.ae_fields.specs.Rows.{bad_row}
 use Rattle.ae_netlist.specs.declared.cell.Outlet.{Outlet}
 use Rattle.ae_netlist.specs.Circuit.{Circuit, width_of}
 use Rattle.ae_netlist.specs.Counts.{is_input, count_of}
 use Rattle.ae_netlist.specs.Rows.{AreInputs, filled}
 use Rattle.ae_vread.specs.ModuleTree.{NetTree, ModuleTree}
-use Rattle.ae_elab.specs.Names.{is_input_kind, is_clock}
-use Rattle.ae_elab.specs.Weight.{weight}
-use Rattle.ae_elab.specs.Faults.{IsWellFormed}
-use Rattle.ae_elab.specs.Values.{ModuleClock}
-use Rattle.ae_elab.specs.Runs.{clock_at}
-use Rattle.ae_elab.specs.SameRuns.{inputs_of, outputs_of, output_words, HasSameRuns, BeginAlike, HaveEqualOutputs}
+use Rattle.ae_judge.specs.Names.{is_input_kind, is_clock}
+use Rattle.ae_judge.specs.Weight.{weight}
+use Rattle.ae_judge.specs.Faults.{IsWellFormed}
+use Rattle.ae_runs.specs.Values.{ModuleClock}
+use Rattle.ae_runs.specs.Runs.{clock_at}
+use Rattle.ae_runs.specs.SameRuns.{inputs_of, outputs_of, output_words, HasSameRuns, BeginAlike, HaveEqualOutputs}
 use Rattle.ae_jobs.specs.declared.status.Status.{Status}
 use Rattle.ae_jobs.specs.declared.status.Status.TheVariants.{Ok, Usage, BadLine, BadType, TooLarge, NoSchedule, BadWords, BadModule, LongRun, ReadFault, WriteFault, TooLong, Memory, BadWave, NotMoves}
 use Rattle.ae_jobs.specs.RunTexts.{run_limit}

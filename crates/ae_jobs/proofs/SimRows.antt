@@ -10,7 +10,7 @@ use Rattle.std.proofs.lemmas.Option.{same_Some, slice_get-map, slice_get_within,
 use Rattle.std.proofs.Math.Nat.{mul-le-mul_left}
 use Rattle.std.proofs.Math.Seq.{drop-append_seam, take-append_seam}
 use Rattle.std.specs.Prelude.{option_map}
-use Rattle.ae_parse.specs.Rows.{rows, is_right, wrong_column, bad_row, row_words, words_in}
+use Rattle.ae_fields.specs.Rows.{rows, is_right, wrong_column, bad_row, row_words, words_in}
 use Rattle.ae_netlist.specs.declared.cell.SizedCell.{SizedCell}
 use Rattle.ae_netlist.specs.declared.cell.Cell.TheVariants.{Const}
 use Rattle.ae_netlist.specs.Circuit.{Circuit, IsFormed}

@@ -22,9 +22,9 @@ use Rattle.ae_vread.specs.declared.module.NetKind.TheVariants as kind
 use Rattle.ae_vread.specs.ModuleTree.{ModuleTree, NetTree}
 use Rattle.ae_judge.specs.Names.{Among, is_clock, is_input_kind, is_output_kind}
 use Rattle.ae_judge.proofs.Members.{among_at, among_from, among_split, among_unflat, among_unmap}
-use Rattle.ae_elab.specs.Values.{ModuleClock}
-use Rattle.ae_elab.specs.Runs.{FitsKind, IsModuleRun, clock_at}
-use Rattle.ae_elab.specs.SameRuns.{input_words, inputs_of, output_words, outputs_of}
+use Rattle.ae_runs.specs.Values.{ModuleClock}
+use Rattle.ae_runs.specs.Runs.{FitsKind, IsModuleRun, clock_at}
+use Rattle.ae_runs.specs.SameRuns.{input_words, inputs_of, output_words, outputs_of}
 use Rattle.ae_runs.proofs.Pairwise.{among_filter}
 use Rattle.ae_verilog.specs.NetlistModule.{input_nets, netlist_module, output_net, port_name}
 use Rattle.ae_verilog.specs.PortNets.{input_ports, port_nets}

@@ -23,8 +23,8 @@ use Rattle.ae_verilog.specs.Notes.{NoteTree, lines_of, noted_module}
 use Rattle.ae_verilog.specs.ReportLines.{ReportTree, is_clean, report_lines}
 use Rattle.ae_verilog.specs.Text.{assignment_text, declaration_text, edge_text, header_text, noted, whole_text}
 use Rattle.ae_netlist.specs.declared.cell.SizedCell.{SizedCell}
-use Rattle.ae_elab.specs.Runs.{clock_at}
-use Rattle.ae_elab.specs.SameRuns.{input_words, inputs_of, output_words, outputs_of}
+use Rattle.ae_runs.specs.Runs.{clock_at}
+use Rattle.ae_runs.specs.SameRuns.{input_words, inputs_of, output_words, outputs_of}
 use Rattle.ae_play.specs.Lines.{clock_count}
 use Rattle.ae_play.specs.Words.{port_words}
 use Rattle.ae_correct.specs.ClockTexts.{AreClockWords}

@@ -2,7 +2,7 @@
 use Rattle.std.specs.Prelude.{◌≡◌, ℕ, ◌<◌, ◌^◌, List, length, None}
 use Rattle.ae_seqtype.specs.ValueTree.{ValueTree}
 use Rattle.ae_seq.specs.ProgramTree.{ProgramTree}
-use Rattle.ae_parse.specs.Rows.{bad_row, words_in}
+use Rattle.ae_fields.specs.Rows.{bad_row, words_in}
 use Rattle.ae_rewrite.specs.Interface.{parameter_types}
 use Rattle.ae_jobs.specs.Inputs.{values_of}
 use Rattle.ae_jobs.specs.RunTexts.{input_widths}

@@ -5,7 +5,7 @@ use Rattle.ae_seqtype.specs.SeqTree.{SeqTree, words}
 use Rattle.ae_seqtype.specs.ValueTree.{flat}
 use Rattle.ae_seq.specs.ProgramTree.{ProgramTree}
 use Rattle.ae_seq.specs.Meaning.{mean}
-use Rattle.ae_parse.specs.Rows.{bad_row, row_words}
+use Rattle.ae_fields.specs.Rows.{bad_row, row_words}
 use Rattle.ae_jobs.specs.declared.status.Status.{Status}
 use Rattle.ae_jobs.specs.declared.status.Status.TheVariants.{Ok, BadWords, LongRun}
 use Rattle.ae_jobs.specs.Refusals.{refusal_line}

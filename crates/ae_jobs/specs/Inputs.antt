@@ -3,7 +3,7 @@ use Rattle.std.specs.Prelude.{ℕ, List, [], ◌∷◌, ◌++◌, map, take, dro
 use Rattle.ae_word.specs.AtomTree.{WordKind}
 use Rattle.ae_seqtype.specs.SeqTree.{SeqTree, kinds, words}
 use Rattle.ae_seqtype.specs.ValueTree.{ValueTree, value_of}
-use Rattle.ae_parse.specs.Rows.{row_words}
+use Rattle.ae_fields.specs.Rows.{row_words}
 
 -- the widths of all words of some types, in order
 abbrev pub type_widths : SeqTree → List ℕ

@@ -1,7 +1,7 @@
 -- Why an input is no program.
 use Rattle.std.specs.Prelude.{◌≡◌, ℕ, Some, List}
 use Rattle.ae_seq.specs.Typing.{untyped, too_large}
-use Rattle.ae_parse.specs.Grammar.{bad_line}
+use Rattle.ae_fields.specs.Grammar.{bad_line}
 use Rattle.ae_compile.specs.Programs.{IsRefusedAt}
 use Rattle.ae_jobs.specs.declared.status.Status.{Status}
 use Rattle.ae_jobs.specs.declared.status.Status.TheVariants.{BadLine, BadType, TooLarge}

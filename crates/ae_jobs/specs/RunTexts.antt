@@ -1,6 +1,6 @@
 -- The texts that a run of a program's module is written as.
 use Rattle.std.specs.Prelude.{◌≡◌, ℕ, ◌+◌, ◌*◌, ◌<◌, ◌≤◌, List, ◌++◌, length, map, codes, Option, Some, None, sum_by}
-use Rattle.ae_parse.specs.Rows.{bad_row}
+use Rattle.ae_fields.specs.Rows.{bad_row}
 use Rattle.ae_seq.specs.ProgramTree.{ProgramTree}
 use Rattle.ae_seq.specs.Typing.{◌>>=◌}
 use Rattle.ae_sttype.specs.StTree.{StTree}

@@ -1,6 +1,6 @@
 -- What `sim` answers and writes, by the netlist of a module.
 use Rattle.std.specs.Prelude.{◌≡◌, ℕ, ◌+◌, ◌*◌, ◌^◌, ◌<◌, ◌≤◌, List, length, map, Option, Some, None}
-use Rattle.ae_parse.specs.Rows.{bad_row, words_in}
+use Rattle.ae_fields.specs.Rows.{bad_row, words_in}
 use Rattle.ae_netlist.specs.declared.cell.SizedCell.{SizedCell}
 use Rattle.ae_netlist.specs.Circuit.{Circuit}
 use Rattle.ae_netlist.specs.Counts.{is_input, count_of, cells_of}
@@ -8,7 +8,7 @@ use Rattle.ae_netlist.specs.Runs.{Clock}
 use Rattle.ae_netlist.specs.Rows.{IsRunWith, filled}
 use Rattle.ae_vread.specs.ModuleTree.{ModuleTree}
 use Rattle.ae_judge.specs.declared.fault.ElabFault.{ElabFault}
-use Rattle.ae_elab.specs.Faults.{IsFault, IsWellFormed}
+use Rattle.ae_judge.specs.Faults.{IsFault, IsWellFormed}
 use Rattle.ae_jobs.specs.declared.status.VFaultKind.{VFaultKind}
 use Rattle.ae_jobs.specs.declared.status.Status.{Status}
 use Rattle.ae_jobs.specs.declared.status.Status.TheVariants.{Ok, BadWords, BadModule, LongRun}

@@ -1,7 +1,7 @@
 -- What `sim` answers and writes: the clock lines of the module that a Verilog text spells, on rows of words.
 use Rattle.std.specs.Prelude.{◌≡◌, ℕ, zero, suc, ◌+◌, ◌*◌, ◌<◌, ◌≤◌, List, [], ◌∷◌, ◌++◌, length, map, take, get_or, Option, Some, None}
 use Rattle.std.specs.Fmt.{decimal}
-use Rattle.ae_parse.specs.Rows.{bad_row, row_words}
+use Rattle.ae_fields.specs.Rows.{bad_row, row_words}
 use Rattle.ae_vread.specs.ModuleTree.{NetTree, ModuleTree}
 use Rattle.ae_vread.specs.Spells.{Spells}
 use Rattle.ae_vread.specs.Refusals.{HasFault}
@@ -9,10 +9,10 @@ use Rattle.ae_vread.specs.declared.reader.VFault.{VFault}
 use Rattle.ae_vread.specs.declared.reader.VFault.TheVariants as v
 use Rattle.ae_judge.specs.declared.fault.ElabFault.{ElabFault}
 use Rattle.ae_judge.specs.declared.fault.ElabFault.TheVariants as e
-use Rattle.ae_elab.specs.Faults.{IsFault, IsWellFormed}
-use Rattle.ae_elab.specs.Values.{ModuleClock}
-use Rattle.ae_elab.specs.Runs.{clock_at, IsModuleRun}
-use Rattle.ae_elab.specs.SameRuns.{inputs_of, outputs_of, states_of, kind_depth, input_words, output_words, held_words}
+use Rattle.ae_judge.specs.Faults.{IsFault, IsWellFormed}
+use Rattle.ae_runs.specs.Values.{ModuleClock}
+use Rattle.ae_runs.specs.Runs.{clock_at, IsModuleRun}
+use Rattle.ae_runs.specs.SameRuns.{inputs_of, outputs_of, states_of, kind_depth, input_words, output_words, held_words}
 use Rattle.ae_jobs.specs.declared.status.VFaultKind.{VFaultKind}
 use Rattle.ae_jobs.specs.declared.status.VFaultKind.TheVariants.{BadToken, BadHeader, BadItem, Unknown, Twice, Kind, Undriven, Width, Loop, Large}
 use Rattle.ae_jobs.specs.declared.status.Status.{Status}

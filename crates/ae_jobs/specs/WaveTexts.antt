@@ -5,9 +5,9 @@ use Rattle.ae_seq.specs.ProgramTree.{ProgramTree}
 use Rattle.ae_rewrite.specs.StProgramTree.{StFuncTree}
 use Rattle.ae_rewrite.specs.Interface.{parameter_types}
 use Rattle.ae_vread.specs.ModuleTree.{NetTree, ModuleTree}
-use Rattle.ae_elab.specs.Values.{ModuleClock}
-use Rattle.ae_elab.specs.Runs.{IsModuleRun, clock_at}
-use Rattle.ae_elab.specs.SameRuns.{input_words, inputs_of, output_words, outputs_of}
+use Rattle.ae_runs.specs.Values.{ModuleClock}
+use Rattle.ae_runs.specs.Runs.{IsModuleRun, clock_at}
+use Rattle.ae_runs.specs.SameRuns.{input_words, inputs_of, output_words, outputs_of}
 use Rattle.ae_play.specs.Lines.{clock_count}
 use Rattle.ae_play.specs.Words.{port_words}
 use Rattle.ae_vcd.specs.Waves.{WaveTree}

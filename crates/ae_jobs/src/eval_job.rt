@@ -6,7 +6,7 @@ ghost use Rattle.ae_seqtype.specs.ValueTree.{flat};
 ghost use Rattle.ae_seq.specs.ProgramTree.{program_tree};
 ghost use Rattle.ae_seq.specs.Typing.{type_at};
 ghost use Rattle.ae_seq.specs.Meaning.{mean};
-ghost use Rattle.ae_parse.specs.Rows.{rows};
+ghost use Rattle.ae_fields.specs.Rows.{rows};
 ghost use Rattle.ae_eval.specs.Stack.{AllFit, FitIn, IsTyped, values_of};
 ghost use Rattle.ae_eval.specs.Lines.{input_types, last_func};
 ghost use Rattle.ae_play.specs.Lines.{spaced};

@@ -1,7 +1,7 @@
 // The jobs `run` and `wave`.
 
 ghost use Rattle.std.specs.Prelude.{◌≡◌, ◌+◌, ◌*◌, ◌/◌, ◌<◌, ◌≤◌, ◌^◌, List, ℕ, length, map, sum_by, All, IfOk, Some, slice_get, string_bytes};
-ghost use Rattle.ae_parse.specs.Rows.{rows};
+ghost use Rattle.ae_fields.specs.Rows.{rows};
 ghost use Rattle.ae_sttype.specs.StTree.{StTree, st_tree};
 ghost use Rattle.ae_sttype.specs.Size.{IsInSize};
 ghost use Rattle.ae_sttype.specs.Moves.{columns_of};

@@ -5,7 +5,7 @@ ghost use Rattle.ae_judge.specs.Faults.{IsFault, IsWellFormed};
 ghost use Rattle.ae_runs.specs.SameRuns.{HasSameRuns};
 ghost use Rattle.ae_netlist.specs.declared.cell.SizedCell.{SizedCell};
 ghost use Rattle.ae_netlist.specs.Counts.{is_input, count_of, cells_of};
-ghost use Rattle.ae_parse.specs.Rows.{rows};
+ghost use Rattle.ae_fields.specs.Rows.{rows};
 ghost use Rattle.ae_vread.specs.Spells.{Spells};
 ghost use Rattle.ae_vread.specs.View.{module_tree};
 ghost use Rattle.ae_jobs.specs.SimPlaying.{AreSimRows, IsModuleReply, IsNetSim, IsNetText, IsRefusedAs, cell_widths};

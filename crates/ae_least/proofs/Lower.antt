@@ -18,9 +18,9 @@ use Rattle.ae_rewrite.specs.Interface.{main_of, parameter_types, result_types, A
 use Rattle.ae_vread.specs.declared.module.NetKind.{NetKind}
 use Rattle.ae_vread.specs.declared.module.NetKind.TheVariants.{Input, Wire, OutWire, Reg, OutReg, Memory}
 use Rattle.ae_vread.specs.ModuleTree.{NetTree, ModuleTree}
-use Rattle.ae_elab.specs.Names.{Among, is_output_kind, is_clock, clock_name}
-use Rattle.ae_elab.specs.Runs.{clock_at, IsResetRun, SameAt}
-use Rattle.ae_elab.specs.Faults.{IsWellFormed}
+use Rattle.ae_judge.specs.Names.{Among, is_output_kind, is_clock, clock_name}
+use Rattle.ae_runs.specs.Runs.{clock_at, IsResetRun, SameAt}
+use Rattle.ae_judge.specs.Faults.{IsWellFormed}
 use Rattle.ae_judge.proofs.Members.{bytes_same, same_bytes}
 use Rattle.ae_correct.specs.Correct.{ModulePort, ports_of, program_ports, param_ports, result_ports, wave, BundlesHold, KeepsBlocks}
 use Rattle.ae_cause.specs.Causal.{BeginAlike}

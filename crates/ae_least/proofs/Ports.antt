@@ -10,7 +10,7 @@ use Rattle.ae_netlist.specs.declared.cell.Port.TheVariants.{In, Out}
 use Rattle.ae_vread.specs.declared.module.NetKind.{NetKind}
 use Rattle.ae_vread.specs.declared.module.NetKind.TheVariants.{Input, Wire, OutWire, Reg, OutReg, Memory}
 use Rattle.ae_vread.specs.ModuleTree.{NetTree, ModuleTree}
-use Rattle.ae_elab.specs.Names.{Among, is_input_kind, is_output_kind, clock_name, is_clock, is_named}
+use Rattle.ae_judge.specs.Names.{Among, is_input_kind, is_output_kind, clock_name, is_clock, is_named}
 use Rattle.ae_judge.proofs.Members.{same_bytes, among_left, among_right, among_split, among_from, among_unmap}
 use Rattle.ae_verilog.specs.NetlistModule.{port_name}
 use Rattle.ae_trace.proofs.Laying.{AllWide}

@@ -1,11 +1,2 @@
-pub use Rattle.ae_fields.specs.Cut
-pub use Rattle.ae_fields.specs.Cleaned
-pub use Rattle.ae_fields.specs.Number
-pub use Rattle.ae_fields.specs.Parts
-pub use Rattle.ae_fields.specs.Scopes
-pub use Rattle.ae_fields.specs.TypeForm
-pub use Rattle.ae_fields.specs.Words
-pub use Rattle.ae_fields.specs.Grammar
-pub use Rattle.ae_fields.specs.Rows
 pub mod StateView
 pub mod Refusal

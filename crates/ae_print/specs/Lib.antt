@@ -1,2 +1,1 @@
-pub use Rattle.ae_fields.specs.Grammar
 pub mod Printed

@@ -6,8 +6,8 @@ use Rattle.std.proofs.lemmas.List.Sums.{sum_by-cons}
 use Rattle.ae_vread.specs.ModuleTree.{StmtTree, set, put, when, either, block_end, block_more, NetTree, ItemTree, nets, assigns, always}
 use Rattle.ae_judge.specs.Names.{Among, stmt_targets, item_targets}
 use Rattle.ae_judge.proofs.Members.{among_left, among_right, among_or_not, other_bytes}
-use Rattle.ae_elab.specs.Values.{ModuleClock, assigned, own_value, after_stmt}
-use Rattle.ae_elab.specs.Runs.{after_item, after_items}
+use Rattle.ae_runs.specs.Values.{ModuleClock, assigned, own_value, after_stmt}
+use Rattle.ae_runs.specs.Runs.{after_item, after_items}
 
 -- two clocks have the same for a name
 pub record AreSame (k : List ℕ) (a b : ModuleClock) : Type 0 where

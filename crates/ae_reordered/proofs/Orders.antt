@@ -13,10 +13,10 @@ use Rattle.ae_vread.specs.declared.module.NetKind.TheVariants as kind
 use Rattle.ae_vread.specs.ModuleTree.{StmtTree, NetTree, DriveTree, ItemTree, nets, assigns, always, ModuleTree}
 use Rattle.ae_judge.specs.Names.{Among, drives_of, equations, first_clock, clock_or, clock_name, is_clock, is_input_kind, is_named, item_targets}
 use Rattle.ae_judge.proofs.Members.{among_at, among_from, among_flat, among_unflat, some_or_not, among_or_not, same_bytes}
-use Rattle.ae_elab.specs.Faults.{IsWellFormed, is_misused_in_item}
-use Rattle.ae_elab.specs.Values.{ModuleClock}
-use Rattle.ae_elab.specs.Runs.{IsModuleRun, StepsTo, clock_at, next_clock}
-use Rattle.ae_elab.specs.SameRuns.{BeginAlike, HasSameRuns, HaveEqualOutputs, inputs_of}
+use Rattle.ae_judge.specs.Faults.{IsWellFormed, is_misused_in_item}
+use Rattle.ae_runs.specs.Values.{ModuleClock}
+use Rattle.ae_runs.specs.Runs.{IsModuleRun, StepsTo, clock_at, next_clock}
+use Rattle.ae_runs.specs.SameRuns.{BeginAlike, HasSameRuns, HaveEqualOutputs, inputs_of}
 use Rattle.ae_reordered.specs.Reordered.{reordered}
 use Rattle.ae_reordered.proofs.Effects.{AreSame, hit, hit_most, hit_none, hits_more, hits_none, none_assigns, one_assigns, same_then, same_back}
 

@@ -4,10 +4,10 @@ ghost use Rattle.std.specs.Prelude.{List, ◌↔◌};
 ghost use Rattle.std.specs.List.Sorted.{IsPermutation};
 ghost use Rattle.ae_netlist.specs.Circuit.{Circuit};
 ghost use Rattle.ae_vread.specs.ModuleTree.{ItemTree, ModuleTree};
-ghost use Rattle.ae_elab.specs.Faults.{IsWellFormed};
-ghost use Rattle.ae_elab.specs.Runs.{IsModuleRun};
-ghost use Rattle.ae_elab.specs.SameRuns.{HasSameRuns};
-ghost use Rattle.ae_elab.specs.Values.{ModuleClock};
+ghost use Rattle.ae_judge.specs.Faults.{IsWellFormed};
+ghost use Rattle.ae_runs.specs.Runs.{IsModuleRun};
+ghost use Rattle.ae_runs.specs.SameRuns.{HasSameRuns};
+ghost use Rattle.ae_runs.specs.Values.{ModuleClock};
 ghost use Rattle.ae_reordered.specs.Reordered.{reordered};
 
 /// A law: a well-formed module and the same items in another order have the same runs; so what a module is elaborated to has

@@ -7,12 +7,12 @@ use Rattle.std.specs.Str.Parse.{digits_value}
 use Rattle.ae_seq.specs.ProgramTree.{ProgramTree}
 use Rattle.ae_seq.specs.Formed.{all_distinct, formed_funcs, func_names, line_count, within}
 use Rattle.ae_seq.specs.Typing.{where_ok, ◌>>=◌}
-use Rattle.ae_parse.specs.Cut.{fields, lines, said}
-use Rattle.ae_parse.specs.Grammar.{Known, Part, State, program, start, reading_from, step, first_line, after_line, by_part, by_state, ended_with, finish, node, at_end, of_version, places_after}
-use Rattle.ae_parse.specs.Number.{is_numeral, numeral_value}
-use Rattle.ae_parse.specs.Parts.{is_mark}
-use Rattle.ae_parse.specs.Scopes.{place}
-use Rattle.ae_parse.specs.Words.{words_after}
+use Rattle.ae_fields.specs.Cut.{fields, lines, said}
+use Rattle.ae_fields.specs.Grammar.{Known, Part, State, program, start, reading_from, step, first_line, after_line, by_part, by_state, ended_with, finish, node, at_end, of_version, places_after}
+use Rattle.ae_fields.specs.Number.{is_numeral, numeral_value}
+use Rattle.ae_fields.specs.Parts.{is_mark}
+use Rattle.ae_fields.specs.Scopes.{place}
+use Rattle.ae_fields.specs.Words.{words_after}
 use Rattle.ae_fields.proofs.OptionLemmas.{bind-some, some-is}
 use Rattle.ae_fields.proofs.PlainLemmas.{number-of-decimal}
 use Rattle.ae_print.proofs.ProgramRead.{opened, open-first}

@@ -7,15 +7,15 @@ use Rattle.std.specs.Str.{all_ascii_digits, bytes_eq}
 use Rattle.std.specs.Str.Parse.{digits_value}
 use Rattle.ae_seq.specs.ProgramTree.{const, NodeTree, FuncTree, ProgramTree}
 use Rattle.ae_seq.specs.Formed.{all_below, all_distinct, all_names, formed_func, formed_funcs, formed_nodes, func_names, has_arguments, is_line, is_name, item_count, most_results, node_names, param_names, within, line_count}
-use Rattle.ae_parse.specs.Cut.{lines, said, fields}
-use Rattle.ae_parse.specs.Grammar.{Known, Part, State, Head, program, start, reading_from, step, first_line, after_line, by_part, begun, begin_named, params_of, node, node_with, finish, whole, at_end, by_state, of_version, places_after}
-use Rattle.ae_parse.specs.Number.{is_numeral, numeral_value}
+use Rattle.ae_fields.specs.Cut.{lines, said, fields}
+use Rattle.ae_fields.specs.Grammar.{Known, Part, State, Head, program, start, reading_from, step, first_line, after_line, by_part, begun, begin_named, params_of, node, node_with, finish, whole, at_end, by_state, of_version, places_after}
+use Rattle.ae_fields.specs.Number.{is_numeral, numeral_value}
 use Rattle.ae_seq.specs.Typing.{where_ok, ◌>>=◌}
-use Rattle.ae_parse.specs.Parts.{is_mark}
+use Rattle.ae_fields.specs.Parts.{is_mark}
 use Rattle.ae_print.specs.Printed.{end_fields, funcs_fit, item_names, name_at, node_fields, nodes_fit, op_fields, param_field, words_fit}
-use Rattle.ae_parse.specs.Scopes.{place}
-use Rattle.ae_parse.specs.TypeForm.{type_of}
-use Rattle.ae_parse.specs.Words.{const_from, with_arguments, words_after}
+use Rattle.ae_fields.specs.Scopes.{place}
+use Rattle.ae_fields.specs.TypeForm.{type_of}
+use Rattle.ae_fields.specs.Words.{const_from, with_arguments, words_after}
 use Rattle.ae_print.proofs.LineRead.{Extends, NodeFits, extends-append, funcs-found, node-read, step-later}
 use Rattle.ae_fields.proofs.NameForms.{distinct-front, distinct-new}
 use Rattle.ae_print.proofs.OpRead.{FuncsFound}

@@ -2,10 +2,10 @@
 use Rattle.std.specs.Prelude.{◌≡◌, ℕ, ◌+◌, ◌^◌, ◌<◌, ◌≤◌, false, true, IsTrue, List, [], ◌∷◌, Some, slice_get}
 use Rattle.std.specs.Str.{all_ascii_digits}
 use Rattle.std.specs.Str.Parse.{digits_value}
-use Rattle.ae_parse.specs.Cleaned.{all_printed}
-use Rattle.ae_parse.specs.Cut.{fields, said}
-use Rattle.ae_parse.specs.Number.{is_numeral}
-use Rattle.ae_parse.specs.Parts.{is_mark}
+use Rattle.ae_fields.specs.Cleaned.{all_printed}
+use Rattle.ae_fields.specs.Cut.{fields, said}
+use Rattle.ae_fields.specs.Number.{is_numeral}
+use Rattle.ae_fields.specs.Parts.{is_mark}
 
 -- line n, up to its comment: it has the bytes that may stand there, is among the first 4,096 if it says something, and its
 -- numbers have at most 20 digits and are below 2 to the 64

@@ -10,7 +10,7 @@ use Rattle.ae_word.specs.AtomTree.{AtomTree, word, pair}
 use Rattle.ae_word.specs.AtomText.{kind_letter, atom_text}
 use Rattle.ae_sttype.specs.StTree.{StTree, atom, tseq, sseq}
 use Rattle.ae_sttype.specs.TypeText.{st_text}
-use Rattle.ae_vread.specs.Tokens.{after_gap, Between, InLine}
+use Rattle.ae_vtoken.specs.Tokens.{after_gap, Between, InLine}
 use Rattle.ae_verilog.specs.NetlistModule.{each_numbered}
 use Rattle.ae_verilog.specs.Notes.{NoteTree, note_line, is_printed}
 use Rattle.ae_verilog.specs.ReportLines.{ReportTree, number_line, enable_line, in_line, out_line, report_lines, is_clean}

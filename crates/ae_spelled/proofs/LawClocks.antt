@@ -8,10 +8,10 @@ use Rattle.ae_netlist.specs.declared.cell.SizedCell.{SizedCell}
 use Rattle.ae_netlist.specs.declared.cell.Outlet.{Outlet}
 use Rattle.ae_netlist.specs.Circuit as c
 use Rattle.ae_vread.specs.ModuleTree.{StmtTree, DriveTree, ItemTree, nets, assigns, always}
-use Rattle.ae_elab.specs.Names as e
-use Rattle.ae_elab.specs.Widths.{declared_width_in, declared_width}
-use Rattle.ae_elab.specs.Values.{ModuleClock, assigned}
-use Rattle.ae_elab.specs.Runs.{IsSettled}
+use Rattle.ae_judge.specs.Names as e
+use Rattle.ae_judge.specs.Widths.{declared_width_in, declared_width}
+use Rattle.ae_runs.specs.Values.{ModuleClock, assigned}
+use Rattle.ae_runs.specs.Runs.{IsSettled}
 use Rattle.ae_judge.proofs.Members.{bytes_same, other_bytes, among_at}
 use Rattle.ae_verilog.specs.NetlistModule.{clock_name, port_name, number_name, cell_name, net_value, drive}
 use Rattle.ae_verilog.specs.Written.{IsWritableNetlist}

@@ -2,7 +2,7 @@
 use Rattle.std.proofs.Common.{ℕ, ◌+◌, ◌*◌, ◌≤◌, List, length, arith}
 use Rattle.ae_netlist.specs.declared.cell.SizedCell.{SizedCell}
 use Rattle.ae_netlist.specs.declared.cell.Outlet.{Outlet}
-use Rattle.ae_elab.specs.Faults.{IsWellFormed}
+use Rattle.ae_judge.specs.Faults.{IsWellFormed}
 use Rattle.ae_verilog.specs.NetlistModule.{netlist_module}
 use Rattle.ae_verilog.specs.Written.{IsWritableNetlist}
 use Rattle.ae_spelled.proofs.LawKnown.{none_unknown, none_undriven, none_loops}

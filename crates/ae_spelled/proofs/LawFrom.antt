@@ -10,8 +10,8 @@ use Rattle.ae_netlist.specs.declared.cell.Outlet.{Outlet}
 use Rattle.ae_netlist.specs.Circuit as c
 use Rattle.ae_netlist.specs.Runs as r
 use Rattle.ae_netlist.proofs.Shapes.{each_shaped, each_holds}
-use Rattle.ae_elab.specs.Values.{ModuleClock}
-use Rattle.ae_elab.specs.Runs.{idle_clock, clock_at, FitsKind, IsModuleRun}
+use Rattle.ae_runs.specs.Values.{ModuleClock}
+use Rattle.ae_runs.specs.Runs.{idle_clock, clock_at, FitsKind, IsModuleRun}
 use Rattle.ae_verilog.specs.NetlistModule.{port_name, number_name, cell_name}
 use Rattle.ae_verilog.specs.Written.{IsWritableNetlist}
 use Rattle.ae_spelled.proofs.LawNets.{written, cell_net, cell_among, name_of}

@@ -12,10 +12,10 @@ use Rattle.ae_netlist.specs.Counts as c_counts
 use Rattle.ae_netlist.specs.Runs as r
 use Rattle.ae_netlist.proofs.Shapes.{clock_shaped, cell_holds as net_holds}
 use Rattle.ae_vread.specs.ModuleTree.{NetTree}
-use Rattle.ae_elab.specs.Names.{Among, is_clock}
-use Rattle.ae_elab.specs.Values.{ModuleClock}
-use Rattle.ae_elab.specs.Runs.{clock_at, FitsKind, IsModuleShaped, IsSettled, next_clock, StepsTo, IsStep, IsModuleRun}
-use Rattle.ae_elab.specs.PlainRun.{clocks_from}
+use Rattle.ae_judge.specs.Names.{Among, is_clock}
+use Rattle.ae_runs.specs.Values.{ModuleClock}
+use Rattle.ae_runs.specs.Runs.{clock_at, FitsKind, IsModuleShaped, IsSettled, next_clock, StepsTo, IsStep, IsModuleRun}
+use Rattle.ae_runs.specs.PlainRun.{clocks_from}
 use Rattle.ae_judge.proofs.Members.{same_bytes, bytes_same, among_left, among_right, among_split, among_at, among_from, among_map, among_unmap, find_only}
 use Rattle.ae_runs.proofs.Made.{from_length, from_at}
 use Rattle.ae_verilog.specs.NetlistModule.{port_name, cell_name, each_numbered}

@@ -8,8 +8,8 @@ use Rattle.ae_netlist.specs.declared.cell.Cell.TheVariants.{Input, Const, Op, Re
 use Rattle.ae_netlist.specs.declared.cell.SizedCell.{SizedCell}
 use Rattle.ae_netlist.specs.declared.cell.Outlet.{Outlet}
 use Rattle.ae_vread.specs.ModuleTree.{NetTree, ItemTree, ModuleTree}
-use Rattle.ae_elab.specs.Names.{Among, is_input_kind, passes, is_input_name, stmt_targets, target_of, item_targets}
-use Rattle.ae_elab.specs.Faults.{HasTwice, Never}
+use Rattle.ae_judge.specs.Names.{Among, is_input_kind, passes, is_input_name, stmt_targets, target_of, item_targets}
+use Rattle.ae_judge.specs.Faults.{HasTwice, Never}
 use Rattle.ae_judge.proofs.Members.{among_split, among_from, among_at, among_unmap}
 use Rattle.ae_verilog.specs.NetlistModule.{port_name, cell_name, input_nets, output_net, declared_nets, each_numbered, inputs_of, declared_from}
 use Rattle.ae_verilog.specs.Written.{IsWritableNetlist}

@@ -15,10 +15,10 @@ use Rattle.ae_netlist.proofs.OneRun.{one_run}
 use Rattle.ae_vread.specs.declared.module.NetKind.{NetKind}
 use Rattle.ae_vread.specs.declared.module.NetKind.TheVariants.{Input as InputNet, Reg as RegNet, Memory as MemoryNet}
 use Rattle.ae_vread.specs.ModuleTree.{NetTree, ModuleTree}
-use Rattle.ae_elab.specs.Names.{Among, is_input_kind, is_register_kind, is_memory_kind, is_output_kind, is_clock}
-use Rattle.ae_elab.specs.Values.{ModuleClock}
-use Rattle.ae_elab.specs.Runs.{clock_at, IsModuleRun}
-use Rattle.ae_elab.specs.SameRuns as s
+use Rattle.ae_judge.specs.Names.{Among, is_input_kind, is_register_kind, is_memory_kind, is_output_kind, is_clock}
+use Rattle.ae_runs.specs.Values.{ModuleClock}
+use Rattle.ae_runs.specs.Runs.{clock_at, IsModuleRun}
+use Rattle.ae_runs.specs.SameRuns as s
 use Rattle.ae_judge.proofs.Members.{among_unmap}
 use Rattle.ae_verilog.specs.NetlistModule.{port_name, number_name, cell_name, net_of, clock_net, input_nets, output_net, declared_nets, each_numbered, inputs_of, declared_from}
 use Rattle.ae_verilog.specs.Written.{IsWritableNetlist}

@@ -3,8 +3,8 @@ use Rattle.std.proofs.Common.{lit≤, ◌≡◌, ℕ, ◌-◌, ◌≤◌, List, 
 use Rattle.std.specs.Prelude.{codes, decimal, nat_lt, ◌==◌, if◌then◌else◌}
 use Rattle.ae_vtoken.specs.declared.token.Key.TheVariants.{Module, EndModule, Input, Output, Wire, Reg, Assign, Always, Posedge, If}
 use Rattle.ae_vtoken.specs.declared.token.Sign.TheVariants.{Open, Close, Comma, Semicolon, At, Equals}
-use Rattle.ae_vread.specs.Tables.{signs, keys, unused_0, unused_1, unused_2, unused_3, unused_4, unused_5, unused_6, unused_7, unused_8, unused_9}
-use Rattle.ae_vread.specs.Tokens.{TokenTree, Name, Word, Mark, after_gap, Between, token_of, AreTokens, No_more, Then}
+use Rattle.ae_vtoken.specs.Tables.{signs, keys, unused_0, unused_1, unused_2, unused_3, unused_4, unused_5, unused_6, unused_7, unused_8, unused_9}
+use Rattle.ae_vtoken.specs.Tokens.{TokenTree, Name, Word, Mark, after_gap, Between, token_of, AreTokens, No_more, Then}
 use Rattle.ae_vread.specs.ModuleTree.{ExprTree, name}
 use Rattle.ae_vread.specs.ExprForms.{NumberForm, NameForm}
 use Rattle.ae_vread.specs.StmtForms.{SetForm, PutForm, IfForm}

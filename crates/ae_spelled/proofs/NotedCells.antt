@@ -4,7 +4,7 @@ use Rattle.std.specs.Prelude.{max, slice_get}
 use Rattle.std.proofs.lemmas.List.{take_all, drop-drop, length-drop}
 use Rattle.std.proofs.lemmas.Option.{none-some}
 use Rattle.ae_netlist.specs.declared.cell.SizedCell.{SizedCell}
-use Rattle.ae_vread.specs.Tokens.{TokenTree}
+use Rattle.ae_vtoken.specs.Tokens.{TokenTree}
 use Rattle.ae_verilog.specs.NetlistModule.{each_numbered}
 use Rattle.ae_verilog.specs.Notes.{NoteTree, note_line}
 use Rattle.ae_verilog.specs.Text.{between, noted}

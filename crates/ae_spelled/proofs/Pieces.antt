@@ -11,8 +11,8 @@ use Rattle.std.proofs.lemmas.Fmt.{decimal_is_IsNumeral, first_decimal, decimal_d
 use Rattle.std.proofs.lemmas.Slice.Eq.{bytes_eq-Decides}
 use Rattle.std.proofs.lemmas.List.Folds.{list_all-append}
 use Rattle.ae_vtoken.specs.declared.token.Key.{Key}
-use Rattle.ae_vread.specs.Tables.{keys, unused_0, unused_1, unused_2, unused_3, unused_4, unused_5, unused_6, unused_7, unused_8, unused_9}
-use Rattle.ae_vread.specs.Tokens.{Name, Decimal, Sized, look_up, is_unused, is_word_start, is_word_byte, word_of, are_digits, number_from, decimal_of, token_of, constant}
+use Rattle.ae_vtoken.specs.Tables.{keys, unused_0, unused_1, unused_2, unused_3, unused_4, unused_5, unused_6, unused_7, unused_8, unused_9}
+use Rattle.ae_vtoken.specs.Tokens.{Name, Decimal, Sized, look_up, is_unused, is_word_start, is_word_byte, word_of, are_digits, number_from, decimal_of, token_of, constant}
 use Rattle.ae_vread.specs.ExprForms.{NumberForm, ZeroForm, DecimalForm, number_token}
 use Rattle.ae_verilog.specs.ReportLines.{is_clean}
 use Rattle.ae_vtoken.proofs.MarkLemmas.{of_key}

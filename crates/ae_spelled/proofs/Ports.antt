@@ -3,7 +3,7 @@ use Rattle.std.proofs.Common.{◌≡◌, ℕ, ◌≤◌, List, [], ◌∷◌, �
 use Rattle.std.specs.Prelude.{codes}
 use Rattle.ae_vtoken.specs.declared.token.Key.TheVariants.{Module}
 use Rattle.ae_vtoken.specs.declared.token.Sign.TheVariants.{Open, Close, Comma, Semicolon}
-use Rattle.ae_vread.specs.Tokens.{TokenTree, Name, Word, Mark, token_of, AreTokens}
+use Rattle.ae_vtoken.specs.Tokens.{TokenTree, Name, Word, Mark, token_of, AreTokens}
 use Rattle.ae_vread.specs.Forms.{PortHead, InputHead, OutputHead, PortForm, port_tokens}
 use Rattle.ae_vtoken.proofs.TokenLemmas.{is_lone, spaced, mark, blank_then}
 use Rattle.ae_verilog.specs.NetlistModule.{clock_name}

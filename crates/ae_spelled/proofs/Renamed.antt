@@ -3,11 +3,11 @@ use Rattle.std.proofs.Common.{ℕ, List}
 use Rattle.ae_netlist.specs.Circuit.{Circuit}
 use Rattle.ae_netlist.specs.Runs as netlist
 use Rattle.ae_vread.specs.ModuleTree.{ModuleTree}
-use Rattle.ae_elab.specs.Names.{is_clock, equations}
-use Rattle.ae_elab.specs.Faults.{Reaches, at_once, through, IsWellFormed}
-use Rattle.ae_elab.specs.Values.{ModuleClock}
-use Rattle.ae_elab.specs.Runs.{next_clock, IsStep, IsModuleRun}
-use Rattle.ae_elab.specs.SameRuns.{BeginAlike, HaveEqualOutputs, HasSameRuns}
+use Rattle.ae_judge.specs.Names.{is_clock, equations}
+use Rattle.ae_judge.specs.Faults.{Reaches, at_once, through, IsWellFormed}
+use Rattle.ae_runs.specs.Values.{ModuleClock}
+use Rattle.ae_runs.specs.Runs.{next_clock, IsStep, IsModuleRun}
+use Rattle.ae_runs.specs.SameRuns.{BeginAlike, HaveEqualOutputs, HasSameRuns}
 use Rattle.ae_spelled.specs.Streams.{renamed}
 
 module _ (title : List ℕ) (m : ModuleTree) where

@@ -1,7 +1,7 @@
 -- The ports of a written module but its clock.
 use Rattle.std.specs.Prelude.{◌≡◌, ℕ, ◌++◌}
 use Rattle.ae_netlist.specs.Circuit.{Circuit}
-use Rattle.ae_elab.specs.SameRuns.{inputs_of, outputs_of}
+use Rattle.ae_runs.specs.SameRuns.{inputs_of, outputs_of}
 use Rattle.ae_verilog.specs.NetlistModule.{netlist_module}
 use Rattle.ae_verilog.specs.PortNets.{port_nets}
 

@@ -19,10 +19,10 @@ use Rattle.ae_netlist.specs.Runs as netlist
 use Rattle.ae_netlist.specs.Runs.{Clock, no_clock, word_at}
 use Rattle.ae_netlist.proofs.Shapes.{clock_shaped}
 use Rattle.ae_vread.specs.ModuleTree.{ModuleTree}
-use Rattle.ae_elab.specs.Values.{ModuleClock}
-use Rattle.ae_elab.specs.Runs.{IsResetRun, clock_at, idle_clock}
-use Rattle.ae_elab.specs.Runs as module_runs
-use Rattle.ae_elab.specs.SameRuns.{BeginAlike, HaveEqualOutputs, HasSameRuns}
+use Rattle.ae_runs.specs.Values.{ModuleClock}
+use Rattle.ae_runs.specs.Runs.{IsResetRun, clock_at, idle_clock}
+use Rattle.ae_runs.specs.Runs as module_runs
+use Rattle.ae_runs.specs.SameRuns.{BeginAlike, HaveEqualOutputs, HasSameRuns}
 use Rattle.ae_verilog.specs.NetlistModule.{netlist_module, port_name}
 use Rattle.ae_ops.specs.Blocks.{stream_of, stream_widths}
 use Rattle.ae_seq.specs.ProgramTree.{ProgramTree}

@@ -7,9 +7,9 @@ use Rattle.ae_seq.specs.ProgramTree.{ProgramTree}
 use Rattle.ae_seq.specs.Meaning.{mean}
 use Rattle.ae_rewrite.specs.Interface.{AreValues, HaveLayouts, parameter_types}
 use Rattle.ae_vread.specs.ModuleTree.{ModuleTree}
-use Rattle.ae_elab.specs.Names.{clock_name}
-use Rattle.ae_elab.specs.Values.{ModuleClock}
-use Rattle.ae_elab.specs.Runs.{clock_at, IsModuleRun}
+use Rattle.ae_judge.specs.Names.{clock_name}
+use Rattle.ae_runs.specs.Values.{ModuleClock}
+use Rattle.ae_runs.specs.Runs.{clock_at, IsModuleRun}
 use Rattle.ae_correct.specs.Correct.{BundlesHold, ModulePort, param_ports, result_ports, bundles_from, ports_of}
 
 -- the name of the enable

@@ -5,7 +5,7 @@ use Rattle.ae_netlist.specs.Circuit.{Circuit}
 use Rattle.ae_seq.specs.ProgramTree.{ProgramTree}
 use Rattle.ae_delay.specs.declared.own.OwnCosts.{OwnCosts}
 use Rattle.ae_ports.specs.CircuitFor.{IsCircuitFor}
-use Rattle.ae_elab.specs.SameRuns.{HasSameRuns}
+use Rattle.ae_runs.specs.SameRuns.{HasSameRuns}
 use Rattle.ae_verilog.specs.NetlistModule.{netlist_module}
 use Rattle.ae_verilog.specs.Written.{IsWritableNetlist}
 use Rattle.ae_correct.specs.Laws.{IsLaidOut}

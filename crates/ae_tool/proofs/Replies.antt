@@ -6,9 +6,9 @@ use Rattle.ae_fields.proofs.PlainLemmas.{own}
 use Rattle.std.proofs.lemmas.Fmt.{digits_value-decimal}
 use Rattle.std.specs.Fmt.{decimal}
 use Rattle.std.specs.Str.Parse.{digits_value}
-use Rattle.ae_parse.specs.Cut.{lines, fields, said, put}
-use Rattle.ae_parse.specs.Parts.{is_mark, no_mark, whole_lines}
-use Rattle.ae_parse.specs.Rows.{rows_of, bad_row}
+use Rattle.ae_fields.specs.Cut.{lines, fields, said, put}
+use Rattle.ae_fields.specs.Parts.{is_mark, no_mark, whole_lines}
+use Rattle.ae_fields.specs.Rows.{rows_of, bad_row}
 use Rattle.ae_seq.specs.ProgramTree.{ProgramTree}
 use Rattle.ae_jobs.specs.declared.status.Status.{Status}
 use Rattle.ae_jobs.specs.declared.status.Status.TheVariants.{Ok, Usage, BadLine, BadType, TooLarge, NoSchedule, BadWords, BadModule, LongRun, ReadFault, WriteFault, TooLong, Memory, BadWave, NotMoves}
@@ -20,7 +20,7 @@ use Rattle.ae_jobs.specs.RunTexts.{input_widths, run_size, run_limit, IsRunOf, I
 use Rattle.ae_stalled.specs.Laws.{stall_limit}
 use Rattle.ae_compile.specs.Building.{IsBuiltStalled, IsBuiltText}
 use Rattle.ae_compile.specs.Costing.{main_costs, HasCosts, load_limit}
-use Rattle.ae_parse.specs.Grammar.{program}
+use Rattle.ae_fields.specs.Grammar.{program}
 use Rattle.ae_compile.specs.Programs.{IsTypedText}
 use Rattle.ae_jobs.specs.Programs.{IsRefusal}
 use Rattle.ae_rewrite.specs.StProgramTree.{StFuncTree}

@@ -1,8 +1,8 @@
 -- What an input says: a program, and rows of words behind a line `%%`.
 use Rattle.std.specs.Prelude.{◌≡◌, ℕ, Bool, true, false, List, [], take, drop}
-use Rattle.ae_parse.specs.Cut.{lines}
-use Rattle.ae_parse.specs.Parts.{no_mark, IsSplit}
-use Rattle.ae_parse.specs.Rows.{rows}
+use Rattle.ae_fields.specs.Cut.{lines}
+use Rattle.ae_fields.specs.Parts.{no_mark, IsSplit}
+use Rattle.ae_fields.specs.Rows.{rows}
 
 -- the bytes before the first `%%` line, and the rows behind it, as lists of fields: none without such a line
 pub data IsCut (bytes part : List ℕ) (table : List (List (List ℕ))) : Type 0 where

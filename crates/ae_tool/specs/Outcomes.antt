@@ -5,7 +5,7 @@ use Rattle.ae_io.specs.Told.{TakesCount}
 use Rattle.ae_seq.specs.ProgramTree.{ProgramTree}
 use Rattle.ae_jobs.specs.declared.status.Status.{Status}
 use Rattle.ae_jobs.specs.declared.status.Status.TheVariants.{Ok, Usage, ReadFault, WriteFault, TooLong, Memory}
-use Rattle.ae_parse.specs.Rows.{bad_row}
+use Rattle.ae_fields.specs.Rows.{bad_row}
 use Rattle.ae_tool.specs.declared.command.Command.{Command}
 use Rattle.ae_tool.specs.declared.command.Command.TheVariants.{Check, Eval, Plan, Cost, Least, Build, Stall, Run, Wave, Unwave, Sim, Demo}
 use Rattle.ae_jobs.specs.declared.run_job.Form.{Form}

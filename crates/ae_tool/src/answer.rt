@@ -1,7 +1,7 @@
 // What a job answers to an input.
 
 ghost use Rattle.std.specs.Prelude.{◌<◌, ◌≤◌, ◌^◌, IfOk, length, string_bytes};
-ghost use Rattle.ae_parse.specs.Rows.{rows};
+ghost use Rattle.ae_fields.specs.Rows.{rows};
 ghost use Rattle.ae_tool.specs.Commands.{TakesInput, takes_whole};
 ghost use Rattle.ae_tool.specs.Cuts.{AreParts, IsCut};
 ghost use Rattle.ae_tool.specs.Outcomes.{IsReply, IsDone};

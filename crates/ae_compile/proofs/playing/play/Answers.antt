@@ -3,7 +3,7 @@ use Rattle.std.proofs.lemmas.Result.{IfOk-weaker}
 use Rattle.ae_netlist.specs.Circuit.{Circuit}
 use Rattle.ae_seq.specs.ProgramTree.{program_tree}
 use Rattle.ae_rewrite.specs.StProgramTree.{st_func_trees}
-use Rattle.ae_elab.specs.SameRuns.{HasSameRuns}
+use Rattle.ae_runs.specs.SameRuns.{HasSameRuns}
 use Rattle.ae_vread.specs.ModuleTree.{ModuleTree}
 use Rattle.ae_vread.specs.Spells.{Spells}
 use Rattle.ae_verilog.specs.Notes.{note_tree, lines_of, noted_module}

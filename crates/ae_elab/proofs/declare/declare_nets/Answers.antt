@@ -2,7 +2,7 @@ use Rattle.std.proofs.Common.{◌≡◌, ◌≤◌, length, refl, ◌∙◌, sub
 use Rattle.ae_vread.specs.View.{module_tree, net_tree}
 use Rattle.ae_netlist.specs.Counts.{count_of, is_input}
 use Rattle.ae_judge.specs.Names.{depth_of_kind, is_clock}
-use Rattle.ae_elab.specs.Declaring.{Adds, given_cell}
+use Rattle.ae_elab.specs.Declaring.{AddsCell, given_cell}
 use Rattle.ae_judge.proofs.Members.{among_from}
 use Rattle.ae_order.proofs.Turns.{at_turn, take_turn}
 use Rattle.ae_order.proofs.SoundOf.{sized}
@@ -41,7 +41,7 @@ loop-net-preserved c =
     (omega arith) c.net-item.is) in
     let clock : c.is_named-is_clock.result ≡ is_clock m x.name =
     rw (c.as_str.ensures.value, c.clock_of-clock.ensures, c.requires.names, c.deref.ensures.value) at c.is_named-is_clock.ensures in
-    let adds : Adds (given_cell x.kind (is_clock m x.name) (length c.loop-net.nl.cells) (count_of is_input c.loop-net.nl.cells) x.width) c.loop-net.nl
+    let adds : AddsCell (given_cell x.kind (is_clock m x.name) (length c.loop-net.nl.cells) (count_of is_input c.loop-net.nl.cells) x.width) c.loop-net.nl
     c.declare.new.nl c.in_ok-found.found = rw clock at c.in_ok-found.ensures in
     record {
       declared = rw (turn, c.in_ok-push.ensures.items) (declared_more m _ c.loop-net.nets.items c.loop-net.nl c.declare.new.nl x c.in_ok-found.found

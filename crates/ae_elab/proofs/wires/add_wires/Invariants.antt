@@ -1,6 +1,6 @@
 use Rattle.std.proofs.Common.{◌+◌, ◌*◌, ◌≤◌, length}
 use Rattle.ae_vread.specs.View.{module_tree}
-use Rattle.ae_gates.specs.Cells.{Grows}
+use Rattle.ae_gates.specs.Cells.{GrowsByGates}
 use Rattle.ae_order.specs.Drives.{values_of}
 use Rattle.ae_elab.specs.Wiring.{IsWiring, KeepsNets, open_weight}
 use Rattle.ae_elab.proofs.wires.add_wires.Given as goal
@@ -8,7 +8,7 @@ use Rattle.ae_elab.proofs.wires.add_wires.Given as goal
 abbrev pub invariant-loop-turn : goal.invariant-loop-turn
 invariant-loop-turn l = record {
   wiring : IsWiring (module_tree l.m) l.from l.order l.turn l.nets.items l.nl.cells;
-  grows : Grows l.fn.nl l.nl;
+  grows : GrowsByGates l.fn.nl l.nl;
   keeps : KeepsNets l.fn.nets.items l.nets.items;
   few : length l.nl.cells + 8 * open_weight (values_of (module_tree l.m)) l.nets.items ≤ length l.fn.nl.cells + 8 * open_weight
       (values_of (module_tree l.m)) l.fn.nets.items;

@@ -3,7 +3,7 @@ use Rattle.std.specs.List.{sum_by}
 use Rattle.ae_netlist.specs.Circuit.{IsNet}
 use Rattle.ae_vread.specs.View.{expr_tree}
 use Rattle.ae_judge.specs.Widths.{own_width}
-use Rattle.ae_gates.specs.Cells.{Grows, IsWord}
+use Rattle.ae_gates.specs.Cells.{GrowsByGates, IsWord}
 use Rattle.ae_runs.specs.Named.{AreNamed, AreNets, read}
 use Rattle.ae_express.specs.Parts.{part_weight, joined_from}
 use Rattle.ae_express.proofs.AskedLaws.{of_parts}
@@ -12,7 +12,7 @@ use Rattle.ae_express.proofs.expressions.+lowering.Given as goal
 -- the word of the parts so far
 abbrev pub invariant-lower_parts-loop-k : goal.invariant-lower_parts-loop-k
 invariant-lower_parts-loop-k l = record {
-  grows : Grows l.fn.nl l.nl;
+  grows : GrowsByGates l.fn.nl l.nl;
   more : length l.fn.nl.cells ≤ length l.nl.cells;
   few : length l.nl.cells ≤ length l.fn.nl.cells + 8 * sum_by part_weight (take l.k (map expr_tree l.parts));
   own : l.own ≡ sum_by (own_width l.names) (take l.k (map expr_tree l.parts));

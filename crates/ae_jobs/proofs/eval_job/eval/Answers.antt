@@ -1,7 +1,7 @@
 use Rattle.std.specs.Prelude.{string_bytes}
 use Rattle.std.proofs.lemmas.Result.{IfOk-weaker}
 use Rattle.ae_seq.specs.ProgramTree.{program_tree}
-use Rattle.ae_parse.specs.Rows.{rows}
+use Rattle.ae_fields.specs.Rows.{rows}
 use Rattle.ae_jobs.specs.declared.reply.Reply.{Reply}
 use Rattle.ae_jobs.specs.EvalTexts.{IsEvalOf, IsEvaluated, Ran, Refused}
 use Rattle.ae_jobs.proofs.Refusals.{untyped}

@@ -3,7 +3,7 @@ use Rattle.std.specs.Prelude.{string_bytes}
 use Rattle.std.proofs.lemmas.Result.{IfOk-weaker}
 use Rattle.ae_seq.specs.declared.program.Program.{Program}
 use Rattle.ae_seq.specs.ProgramTree.{ProgramTree, program_tree}
-use Rattle.ae_parse.specs.Rows.{rows, bad_row, words_in}
+use Rattle.ae_fields.specs.Rows.{rows, bad_row, words_in}
 use Rattle.ae_eval.specs.Stack.{IsTyped}
 use Rattle.ae_jobs.specs.declared.reply.Reply.{Reply}
 use Rattle.ae_jobs.specs.RunTexts.{input_widths}

@@ -3,7 +3,7 @@ use Rattle.std.specs.Prelude.{string_bytes}
 use Rattle.std.proofs.lemmas.Result.{IfOk-weaker}
 use Rattle.ae_seq.specs.ProgramTree.{program_tree}
 use Rattle.ae_rewrite.specs.StProgramTree.{st_func_trees}
-use Rattle.ae_parse.specs.Rows.{rows}
+use Rattle.ae_fields.specs.Rows.{rows}
 use Rattle.ae_compile.specs.Costing.{load_limit}
 use Rattle.ae_jobs.specs.declared.reply.Reply.{Reply}
 use Rattle.ae_jobs.specs.RunTexts.{IsPlayed, IsRunOf, Played, Unbuilt}

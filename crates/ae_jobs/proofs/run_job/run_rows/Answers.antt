@@ -4,7 +4,7 @@ use Rattle.std.proofs.lemmas.Result.{IfOk-weaker}
 use Rattle.ae_seq.specs.declared.program.Program.{Program}
 use Rattle.ae_seq.specs.ProgramTree.{program_tree}
 use Rattle.ae_rewrite.specs.StProgramTree.{st_func_trees}
-use Rattle.ae_parse.specs.Rows.{rows}
+use Rattle.ae_fields.specs.Rows.{rows}
 use Rattle.ae_jobs.specs.declared.reply.Reply.{Reply}
 use Rattle.ae_jobs.specs.RunTexts.{IsRunOf, input_widths}
 use Rattle.ae_jobs.specs.EvalRows.{AreRows}

@@ -1,6 +1,6 @@
 use Rattle.std.specs.Prelude.{string_bytes}
 use Rattle.std.proofs.lemmas.Result.{IfOk-weaker}
-use Rattle.ae_parse.specs.Rows.{rows}
+use Rattle.ae_fields.specs.Rows.{rows}
 use Rattle.ae_jobs.specs.declared.reply.Reply.{Reply}
 use Rattle.ae_tool.specs.Outcomes.{IsReply, IsDone}
 use Rattle.ae_tool.proofs.answer.answer.Goals as goal

@@ -1,8 +1,8 @@
 use Rattle.std.proofs.Common.{◌-◌, length, drop, refl, ap, arith, subst}
 use Rattle.std.specs.Prelude.{MatchOption}
 use Rattle.std.proofs.lemmas.List.{take_all, length-drop}
-use Rattle.ae_parse.specs.Parts.{HasNoMark, IsSplit}
-use Rattle.ae_parse.specs.Rows.{rows}
+use Rattle.ae_fields.specs.Parts.{HasNoMark, IsSplit}
+use Rattle.ae_fields.specs.Rows.{rows}
 use Rattle.ae_tool.specs.Cuts.{Marked}
 use Rattle.ae_tool.proofs.answer.cut.Goals as goal
 

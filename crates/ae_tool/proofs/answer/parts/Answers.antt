@@ -1,5 +1,5 @@
 use Rattle.std.proofs.Common.{Bool, ◌∙◌, sym, subst}
-use Rattle.ae_parse.specs.Rows.{rows}
+use Rattle.ae_fields.specs.Rows.{rows}
 use Rattle.ae_tool.specs.Cuts.{AreParts}
 use Rattle.ae_tool.proofs.answer.parts.Goals as goal
 

@@ -1,7 +1,7 @@
 use Rattle.std.proofs.Common.{◌≡◌, ℕ, ◌<◌, ◌^◌, List, Option, Some, None, length, get_or, sym, arith}
 use Rattle.std.specs.Prelude.{MatchOption}
 use Rattle.std.specs.Fmt.{decimal}
-use Rattle.ae_parse.specs.Number.{numeral_value}
+use Rattle.ae_fields.specs.Number.{numeral_value}
 use Rattle.ae_fields.proofs.PlainLemmas.{zero-led, number-of-decimal, decimal-of-number, one-digit}
 use Rattle.ae_tool.proofs.command.plain_number.Goals.{else-digits-gt1-via-then-digits-gt1+else-digits-eq48, else-digits-gt1-via-else-digits-gt1}
 use Rattle.ae_tool.proofs.command.plain_number.Goals as goal
