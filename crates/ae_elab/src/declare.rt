@@ -16,7 +16,7 @@ use ae_vread::{NetKind, VModule, VNet};
 use ae_word::Width;
 use std::alloc::{AllocError, Global};
 
-/// AddsCell a register, for which there is room.
+/// Adds a register, for which there is room.
 fn push_register(nl: &mut Netlist, width: u32) -> Result<NetId, AllocError>
     requires low { 1 ≤ width }
     requires high { width ≤ 64 }
@@ -26,7 +26,7 @@ fn push_register(nl: &mut Netlist, width: u32) -> Result<NetId, AllocError>
     nl.push_register(Width { bits: width })
 }
 
-/// AddsCell a memory, for which there is room.
+/// Adds a memory, for which there is room.
 fn push_memory(nl: &mut Netlist, width: u32, depth: u32) -> Result<NetId, AllocError>
     requires low { 1 ≤ width }
     requires high { width ≤ 64 }

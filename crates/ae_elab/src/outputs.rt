@@ -25,7 +25,7 @@ fn is_output_kind(kind: NetKind) -> bool
     }
 }
 
-/// AddsCell a net as the next plain output.
+/// Adds a net as the next plain output.
 fn add_output(nl: &mut Netlist, net: NetId) -> Result<(), AllocError>
     requires net { IsNet nl.old.cells net.0 (width_of nl.old.cells net.0) }
     requires room { length nl.old.outlets < 2 ^ 32 - 1 }
@@ -36,7 +36,7 @@ fn add_output(nl: &mut Netlist, net: NetId) -> Result<(), AllocError>
     Ok(())
 }
 
-/// AddsCell the net of a name, if it is an output.
+/// Adds the net of a name, if it is an output.
 fn show(nl: &mut Netlist, kind: NetKind, net: Option<NetId>) -> Result<(), AllocError>
     requires net { (y : NetId) → is_output_kind kind ≡ true → net ≡ Some y → IsNet nl.old.cells y.0 (width_of nl.old.cells y.0) }
     requires room { length nl.old.outlets < 2 ^ 32 - 1 }
@@ -51,7 +51,7 @@ fn show(nl: &mut Netlist, kind: NetKind, net: Option<NetId>) -> Result<(), Alloc
     }
 }
 
-/// AddsCell the outputs of a module, in order, each as a plain port.
+/// Adds the outputs of a module, in order, each as a plain port.
 pub fn add_outputs(nl: &mut Netlist, m: &VModule, nets: &[Option<NetId>]) -> Result<(), AllocError>
     requires shape { IsShapely (module_tree m.now) }
     requires none { nl.old.outlets ≡ [] }
