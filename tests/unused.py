@@ -1,8 +1,8 @@
 #!/usr/bin/env python3
 """What nothing uses, in proofs, definitions and contracts.
 
-    unused.py             tells each name that a file brings in and does not use, each lemma that no answer, law, definition or
-                          contract leads to, and each definition that stands for itself alone
+    unused.py             tells each name that a file brings in and does not use, or from a place where no file is; each lemma
+                          that no answer, law, definition or contract leads to; and each definition that stands for itself alone
     unused.py --write     takes the names out of the lines that bring them in
 
 Worked examples (`Examples.antt`, and the texts of `ae_vread`) are used by being proved."""
@@ -24,6 +24,8 @@ WORD = re.compile(r"[^\s(){}\[\],;.:]+")
 PLAIN = re.compile(r"[\w+'-]+")
 NAMED = re.compile(r"([^\s{},]+) as ([^\s{},]+)")
 HEAD = re.compile(r"(?:pub )?(?:(?:abbrev|unfoldable|record|data|ruleset) )?(?:pub )?([^\s:(){}]+) ")
+PLACE = re.compile(r"use Rattle\.(\w+)\.((?:specs|proofs)\.[^\s{;]+?)(?:\.\{| as |;?$)", re.M)
+MADE = {"declared", "contracts", "Goals", "Given"}
 SELF = {"infixl", "infixr", "infix", "mutual"}
 
 
@@ -65,6 +67,16 @@ def imports(path, write):
     if write and new != text:
         path.write_text(new)
     return gone
+
+
+def places(path):
+    """The places that a file brings names in from and where no file is: a module of a file begins with the file's own place."""
+    for crate, place in PLACE.findall(path.read_text()):
+        parts = place.split(".")
+        if not (TOP / "crates" / crate).is_dir() or MADE & set(parts):
+            continue
+        if not any((TOP / "crates" / crate / "/".join(parts[:end])).with_suffix(".antt").exists() for end in range(2, len(parts) + 1)):
+            yield f"{crate}.{place}"
 
 
 def blocks(path):
@@ -136,6 +148,9 @@ def main():
         if gone:
             bad += 1
             print(f"{path.relative_to(TOP)}: brings in and does not use {', '.join(gone)}")
+        for place in places(path):
+            bad += 1
+            print(f"{path.relative_to(TOP)}: no file is at {place}")
     for what, found in (("lemma", lemmas()), ("definition", definitions())):
         for path, name in sorted(found):
             bad += 1

@@ -1,5 +1,5 @@
 -- What a statement makes of what is next, from what its parts make of it.
-use Rattle.std.proofs.Common.{ℕ, ◌==◌, ◌&&◌, ◌+◌, ◌*◌, ◌≤◌, Bool, not, List, length, Option, Some, Result, Ok, Err, OnOk, arith}
+use Rattle.std.proofs.Common.{ℕ, ◌==◌, ◌&&◌, ◌+◌, ◌*◌, ◌≤◌, Bool, not, List, length, Option, Some, Result, Ok, Err, OnOk, refl, arith}
 use Rattle.ae_word.specs.WordTable.{bit}
 use Rattle.ae_netlist.specs.declared.cell.NetId.{NetId}
 use Rattle.ae_netlist.specs.Circuit.{Circuit}
@@ -12,10 +12,9 @@ use Rattle.ae_gates.specs.Cells.{GrowsByGates, IsWord}
 use Rattle.ae_runs.specs.Named.{AreNamed, read}
 use Rattle.ae_assign.specs.Edges.{Acts, FitNexts, IsActed, IsGuard, OthersKeep}
 use Rattle.ae_assign.specs.declared.statements.Next.{Next}
-use Rattle.ae_gates.proofs.Words.{grows_trans}
+use Rattle.ae_gates.proofs.Words.{grows_refl, grows_trans}
 use Rattle.ae_assign.proofs.EdgeLaws.{when_acts, either_acts}
 use Rattle.ae_assign.proofs.EdgeFits.{others_both, weight_more}
-use Rattle.ae_assign.proofs.EdgeBlocks.{IsActing, acting_done}
 
 module _ (from : ℕ) (ns : List NetTree) (ys : List (Option NetId)) (guard : Option NetId) where
   -- a call that says so clause by clause
@@ -27,16 +26,15 @@ module _ (from : ℕ) (ns : List NetTree) (ys : List (Option NetId)) (guard : Op
       acts = record { grows = grows; more = more; few = few; nexts = nexts; others = others; acts = acts }
   acted (Err e) old new before after s grows more few nexts others acts = tt
 
-  -- the statements of a block are all done
-  pub block_acted : (old new : Circuit) (before after : List Next) (s : StmtTree) → IsActing from ns ys guard old new before after s block_end
-      → IsActed from ns ys guard old new before after s
-  block_acted old new before after s h = record {
-    grows = h.grows;
-    more = h.more;
-    few = (let few = h.few in omega arith);
-    nexts = h.nexts;
-    others = h.others;
-    acts = acting_done from ns ys guard old before s new after h;
+  -- no statement
+  pub none_acted : (nl : Circuit) (nexts : List Next) → FitNexts ns nexts nl.cells → IsActed from ns ys guard nl nl nexts nexts block_end
+  none_acted nl nexts fits = record {
+    grows = grows_refl nl;
+    more = omega arith;
+    few = omega arith;
+    nexts = fits;
+    others = λ n none. refl;
+    acts = λ at g named guards all k run is t l. refl;
   }
 
   -- one branch, reached where the test is not 0

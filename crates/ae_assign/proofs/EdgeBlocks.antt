@@ -1,15 +1,15 @@
 -- Statements one after the other.
-use Rattle.std.proofs.Common.{ℕ, zero, suc, ◌≡◌, ◌+◌, ◌*◌, ◌<◌, ◌≤◌, Bool, List, [], ◌∷◌, length, map, drop, get_or, Option, arith, refl, sym, ap, ◌∙◌}
+use Rattle.std.proofs.Common.{ℕ, ◌≡◌, ◌+◌, ◌*◌, ◌<◌, ◌≤◌, Bool, List, length, Option, arith, refl, ap, ◌∙◌}
 use Rattle.ae_netlist.specs.declared.cell.NetId.{NetId}
 use Rattle.ae_netlist.specs.Circuit.{Circuit}
 use Rattle.ae_netlist.specs.Runs.{Clock, InEveryRunFrom}
-use Rattle.ae_vread.specs.ModuleTree.{StmtTree, block_end, block_more, NetTree}
+use Rattle.ae_vread.specs.ModuleTree.{StmtTree, block_more, NetTree}
 use Rattle.ae_judge.specs.Names.{Among, stmt_targets}
 use Rattle.ae_judge.specs.Weight.{stmt_weight}
 use Rattle.ae_gates.specs.Cells.{GrowsByGates}
 use Rattle.ae_runs.specs.Named.{AreNamed, read}
 use Rattle.ae_runs.specs.Guards.{guarded}
-use Rattle.ae_assign.specs.Edges.{IsSoundStmt, IsReadyStmt, IsGuard, FitNexts, AreFresh, OthersKeep, next_read, Acts}
+use Rattle.ae_assign.specs.Edges.{IsSoundStmt, IsReadyStmt, IsGuard, FitNexts, AreFresh, OthersKeep, next_read, Acts, IsActed}
 use Rattle.ae_assign.specs.declared.statements.Next.{Next}
 use Rattle.ae_judge.proofs.Members.{among_left, among_right}
 use Rattle.ae_gates.proofs.Words.{back, grows_refl, grows_trans}
@@ -75,22 +75,21 @@ module _ (from : ℕ) (ns : List NetTree) (ys : List (Option NetId)) (guard : Op
       → AreFresh ns after (stmt_targets s)
   next_fresh mid after s rest h = fresh_left ns after (stmt_targets s) (stmt_targets rest) h.fresh
 
-  pub acting_done : (new : Circuit) (after : List Next) → IsActing from ns ys guard old new before after whole block_end
-      → Acts from ns ys guard old.cells new.cells before after whole
-  acting_done new after h = λ at g named guards all k run is t l. h.acts at g named guards all k run is t l
-
--- the element whose turn it is, and those behind it
-module _ {X Y : Type 0} (f : X → Y) where
-  pub drop_turn : (xs : List X) (i : ℕ) (x : X) → i < length xs → x ≡ get_or xs i x → drop i (map f xs) ≡ f x ∷ drop (i + 1) (map f xs)
-  drop_turn [] i x l e = absurd (omega arith)
-  drop_turn (y ∷ xs) zero x l e = let s : x ≡ y = e in ap (λ z. f z ∷ map f xs) (sym s)
-  drop_turn (y ∷ xs) (suc i) x l e = drop_turn xs i x (omega arith) e ∙ ap (λ k. f x ∷ k) (drops i)
-    where
-      drops : (i : ℕ) → drop (i + 1) (map f xs) ≡ drop (suc i + 1) (map f (y ∷ xs))
-      drops i = let z : suc i + 1 ≡ suc (i + 1) = omega arith in rw z refl
-
-  pub drop_done : (xs : List X) (i : ℕ) → length xs ≤ i → drop i (map f xs) ≡ []
-  drop_done [] zero l = refl
-  drop_done [] (suc i) l = refl
-  drop_done (x ∷ xs) zero l = absurd (omega arith)
-  drop_done (x ∷ xs) (suc i) l = drop_done xs i (omega arith)
+  -- all statements are done with what is left
+  pub acting_last : (mid new : Circuit) (after later : List Next) (rest : StmtTree) → IsActing from ns ys guard old mid before after whole rest
+      → IsActed from ns ys guard mid new after later rest → IsActed from ns ys guard old new before later whole
+  acting_last mid new after later rest h last =
+      let less = h.few in
+      let few = last.few in
+      let longer = h.more in
+      let more = last.more in
+      record {
+        grows = grows_trans h.grows last.grows;
+        more = omega arith;
+        few = omega arith;
+        nexts = last.nexts;
+        others = λ n none. last.others n (λ a. none (h.within n a)) ∙ h.others n none;
+        acts = λ at g named guards all k run is t l.
+            last.acts at g named (guard_grows from guard g h.grows guards) all k run is t l
+            ∙ h.acts at g named guards all (back last.grows k) run is t l;
+      }

@@ -1,12 +1,12 @@
 // The statements of clock edges as cells: each assignment is one choice, made where its guard is 1.
 
-ghost use Rattle.std.specs.Prelude.{◌≡◌, ◌<◌, ◌≤◌, ◌+◌, ◌*◌, ◌==◌, ◌&&◌, not, ℕ, Bool, List, Some, length, map, get_or, if◌then◌else◌, IfOk, OnOk, true};
+ghost use Rattle.std.specs.Prelude.{◌≡◌, ◌<◌, ◌≤◌, ◌+◌, ◌*◌, ◌==◌, ◌&&◌, not, ℕ, Bool, List, Some, length, get_or, if◌then◌else◌, IfOk, OnOk, true};
 ghost use Rattle.ae_word.specs.WordTable.{bit};
 ghost use Rattle.ae_netlist.specs.Circuit.{IsAddress, IsNet};
 ghost use Rattle.ae_netlist.specs.Runs.{Clock};
-ghost use Rattle.ae_vread.specs.ModuleTree.{index as index_tree, put as put_tree, set as set_tree};
-ghost use Rattle.ae_vread.specs.StmtReading.{block_of};
-ghost use Rattle.ae_vread.specs.View.{expr_tree, stmt_tree};
+ghost use Rattle.ae_vread.specs.ModuleTree.{block_more, index as index_tree, put as put_tree, set as set_tree};
+ghost use Rattle.ae_vread.specs.Roots.{numbered, numbered_stmt};
+ghost use Rattle.ae_vread.specs.View.{expr_tree, stmt_tree, word_at};
 ghost use Rattle.ae_judge.specs.Names.{depth_of, is_memory_name, stmt_targets};
 ghost use Rattle.ae_judge.specs.Weight.{expr_weight, stmt_weight};
 ghost use Rattle.ae_runs.specs.Values.{own_value};
@@ -20,7 +20,7 @@ use ae_gates::{fixed, gate, is_zero, select};
 use ae_judge::Names;
 use ae_netlist::{NetId, Netlist};
 use ae_order::{place_number, place_of};
-use ae_vread::{Expr, Stmt};
+use ae_vread::{Expr, Stmt, StmtRoot};
 use ae_word::WordOp;
 use std::alloc::AllocError;
 
@@ -46,18 +46,18 @@ fn fails(
     from: u32,
     names: &Names<'_>,
     nets: &[Option<NetId>],
-    test: &Expr,
+    test: Expr<'_>,
 ) -> Result<NetId, AllocError>
     requires from { from ≤ length nl.old.cells }
-    requires nets { AreNets names.now nets.now nl.old.cells }
-    requires sound { IsSound names.now (expr_tree test.now) }
-    requires ready { IsReadyFor names.now nets.now (expr_tree test.now) }
-    requires room { HasRoom nl.old (8 * expr_weight (expr_tree test.now) + 3) }
+    requires nets { AreNets names.now.nets nets.now nl.old.cells }
+    requires sound { IsSound names.now.nets (expr_tree names.now.words (numbered test)) }
+    requires ready { IsReadyFor names.now.nets nets.now (expr_tree names.now.words (numbered test)) }
+    requires room { HasRoom nl.old (8 * expr_weight (expr_tree names.now.words (numbered test)) + 3) }
     ensures grows { OnOk result (GrowsByGates nl.old nl.new) }
     ensures more { OnOk result (length nl.old.cells ≤ length nl.new.cells) }
-    ensures few { OnOk result (length nl.new.cells ≤ length nl.old.cells + 8 * expr_weight (expr_tree test.now) + 3) }
+    ensures few { OnOk result (length nl.new.cells ≤ length nl.old.cells + 8 * expr_weight (expr_tree names.now.words (numbered test.entry)) + 3) }
     ensures net { IfOk result (λ y. IsNet nl.new.cells y.0 1) }
-    ensures word { IfOk result (λ y. (at : List ℕ → ℕ) → AreNamed names.now nets.now at → IsWord from nl.new.cells y.0 1 (λ run t. bit (own_value names.now (read at run t) (expr_tree test.now) == 0))) }
+    ensures word { IfOk result (λ y. (at : List ℕ → ℕ) → AreNamed names.now.nets nets.now at → IsWord from nl.new.cells y.0 1 (λ run t. bit (own_value names.now.nets (read at run t) (expr_tree names.now.words (numbered test.entry)) == 0))) }
 {
     let (x, own) = own_word(nl, from, names, nets, test)?;
     let y = is_zero(nl, from, x, own)?;
@@ -174,22 +174,22 @@ fn assign(
     nets: &[Option<NetId>],
     nexts: &mut Vec<Next>,
     guard: Option<NetId>,
-    name: &str,
-    value: &Expr,
+    name: u32,
+    value: Expr<'_>,
 ) -> Result<(), AllocError>
     requires from { from ≤ length nl.old.cells }
-    requires nets { AreNets names.now nets.now nl.old.cells }
-    requires sound { IsSoundStmt names.now (set_tree name.now (expr_tree value.now)) }
-    requires ready { IsReadyStmt names.now nets.now (set_tree name.now (expr_tree value.now)) }
+    requires nets { AreNets names.now.nets nets.now nl.old.cells }
+    requires sound { IsSoundStmt names.now.nets (set_tree (word_at names.now.words name) (expr_tree names.now.words (numbered value))) }
+    requires ready { IsReadyStmt names.now.nets nets.now (set_tree (word_at names.now.words name) (expr_tree names.now.words (numbered value))) }
     requires guard { IsGuardNet nl.old.cells guard }
-    requires nexts { FitNexts names.now nexts.old.items nl.old.cells }
-    requires room { HasRoom nl.old (8 * (1 + expr_weight (expr_tree value.now))) }
+    requires nexts { FitNexts names.now.nets nexts.old.items nl.old.cells }
+    requires room { HasRoom nl.old (8 * (1 + expr_weight (expr_tree names.now.words (numbered value)))) }
     ensures grows { OnOk result (GrowsByGates nl.old nl.new) }
     ensures more { OnOk result (length nl.old.cells ≤ length nl.new.cells) }
-    ensures few { OnOk result (length nl.new.cells ≤ length nl.old.cells + 8 * (1 + expr_weight (expr_tree value.now))) }
-    ensures nexts { OnOk result (FitNexts names.now nexts.new.items nl.new.cells) }
-    ensures others { OnOk result (OthersKeep names.now nexts.old.items nexts.new.items (stmt_targets (set_tree name.now (expr_tree value.now)))) }
-    ensures acts { OnOk result (Acts from names.now nets.now guard nl.old.cells nl.new.cells nexts.old.items nexts.new.items (set_tree name.now (expr_tree value.now))) }
+    ensures few { OnOk result (length nl.new.cells ≤ length nl.old.cells + 8 * (1 + expr_weight (expr_tree names.now.words (numbered value.entry)))) }
+    ensures nexts { OnOk result (FitNexts names.now.nets nexts.new.items nl.new.cells) }
+    ensures others { OnOk result (OthersKeep names.now.nets nexts.old.items nexts.new.items (stmt_targets (set_tree (word_at names.now.words name) (expr_tree names.now.words (numbered value.entry))))) }
+    ensures acts { OnOk result (Acts from names.now.nets nets.now guard nl.old.cells nl.new.cells nexts.old.items nexts.new.items (set_tree (word_at names.now.words name) (expr_tree names.now.words (numbered value.entry)))) }
 {
     let place = place_of(names, name);
     let width = name_width(names, name);
@@ -207,20 +207,20 @@ fn written_at(
     from: u32,
     names: &Names<'_>,
     nets: &[Option<NetId>],
-    _name: &str,
-    at: &Expr,
+    _name: u32,
+    at: Expr<'_>,
 ) -> Result<NetId, AllocError>
     requires from { from ≤ length nl.old.cells }
-    requires nets { AreNets names.now nets.now nl.old.cells }
-    requires sound { IsSound names.now (index_tree _name.now (expr_tree at.now)) }
-    requires ready { IsReadyFor names.now nets.now (index_tree _name.now (expr_tree at.now)) }
-    requires memory { is_memory_name names.now _name.now ≡ true }
-    requires room { HasRoom nl.old (8 * expr_weight (expr_tree at.now) + 1) }
+    requires nets { AreNets names.now.nets nets.now nl.old.cells }
+    requires sound { IsSound names.now.nets (index_tree (word_at names.now.words _name) (expr_tree names.now.words (numbered at))) }
+    requires ready { IsReadyFor names.now.nets nets.now (index_tree (word_at names.now.words _name) (expr_tree names.now.words (numbered at))) }
+    requires memory { is_memory_name names.now.nets (word_at names.now.words _name) ≡ true }
+    requires room { HasRoom nl.old (8 * expr_weight (expr_tree names.now.words (numbered at)) + 1) }
     ensures grows { OnOk result (GrowsByGates nl.old nl.new) }
     ensures more { OnOk result (length nl.old.cells ≤ length nl.new.cells) }
-    ensures few { OnOk result (length nl.new.cells ≤ length nl.old.cells + 8 * expr_weight (expr_tree at.now) + 1) }
-    ensures address { IfOk result (λ y. IsAddress nl.new.cells y.0 (depth_of names.now _name.now)) }
-    ensures word { IfOk result (λ y. (net_at : List ℕ → ℕ) → AreNamed names.now nets.now net_at → IsAddressWord from nl.new.cells y.0 (λ run t. own_value names.now (read net_at run t) (expr_tree at.now))) }
+    ensures few { OnOk result (length nl.new.cells ≤ length nl.old.cells + 8 * expr_weight (expr_tree names.now.words (numbered at.entry)) + 1) }
+    ensures address { IfOk result (λ y. IsAddress nl.new.cells y.0 (depth_of names.now.nets (word_at names.now.words _name))) }
+    ensures word { IfOk result (λ y. (net_at : List ℕ → ℕ) → AreNamed names.now.nets nets.now net_at → IsAddressWord from nl.new.cells y.0 (λ run t. own_value names.now.nets (read net_at run t) (expr_tree names.now.words (numbered at.entry)))) }
 {
     match place_number(at) {
         Some(k) => address(nl, from, k),
@@ -240,24 +240,24 @@ fn write(
     nets: &[Option<NetId>],
     nexts: &mut Vec<Next>,
     guard: Option<NetId>,
-    name: &str,
-    at: &Expr,
-    value: &Expr,
+    name: u32,
+    at: Expr<'_>,
+    value: Expr<'_>,
 ) -> Result<(), AllocError>
     requires from { from ≤ length nl.old.cells }
-    requires nets { AreNets names.now nets.now nl.old.cells }
-    requires sound { IsSoundStmt names.now (put_tree name.now (expr_tree at.now) (expr_tree value.now)) }
-    requires ready { IsReadyStmt names.now nets.now (put_tree name.now (expr_tree at.now) (expr_tree value.now)) }
+    requires nets { AreNets names.now.nets nets.now nl.old.cells }
+    requires sound { IsSoundStmt names.now.nets (put_tree (word_at names.now.words name) (expr_tree names.now.words (numbered at)) (expr_tree names.now.words (numbered value))) }
+    requires ready { IsReadyStmt names.now.nets nets.now (put_tree (word_at names.now.words name) (expr_tree names.now.words (numbered at)) (expr_tree names.now.words (numbered value))) }
     requires guard { IsGuardNet nl.old.cells guard }
-    requires nexts { FitNexts names.now nexts.old.items nl.old.cells }
-    requires fresh { AreFresh names.now nexts.old.items (stmt_targets (put_tree name.now (expr_tree at.now) (expr_tree value.now))) }
-    requires room { HasRoom nl.old (8 * (1 + (expr_weight (expr_tree at.now) + expr_weight (expr_tree value.now)))) }
+    requires nexts { FitNexts names.now.nets nexts.old.items nl.old.cells }
+    requires fresh { AreFresh names.now.nets nexts.old.items (stmt_targets (put_tree (word_at names.now.words name) (expr_tree names.now.words (numbered at)) (expr_tree names.now.words (numbered value)))) }
+    requires room { HasRoom nl.old (8 * (1 + (expr_weight (expr_tree names.now.words (numbered at)) + expr_weight (expr_tree names.now.words (numbered value))))) }
     ensures grows { OnOk result (GrowsByGates nl.old nl.new) }
     ensures more { OnOk result (length nl.old.cells ≤ length nl.new.cells) }
-    ensures few { OnOk result (length nl.new.cells ≤ length nl.old.cells + 8 * (1 + (expr_weight (expr_tree at.now) + expr_weight (expr_tree value.now)))) }
-    ensures nexts { OnOk result (FitNexts names.now nexts.new.items nl.new.cells) }
-    ensures others { OnOk result (OthersKeep names.now nexts.old.items nexts.new.items (stmt_targets (put_tree name.now (expr_tree at.now) (expr_tree value.now)))) }
-    ensures acts { OnOk result (Acts from names.now nets.now guard nl.old.cells nl.new.cells nexts.old.items nexts.new.items (put_tree name.now (expr_tree at.now) (expr_tree value.now))) }
+    ensures few { OnOk result (length nl.new.cells ≤ length nl.old.cells + 8 * (1 + (expr_weight (expr_tree names.now.words (numbered at.entry)) + expr_weight (expr_tree names.now.words (numbered value.entry))))) }
+    ensures nexts { OnOk result (FitNexts names.now.nets nexts.new.items nl.new.cells) }
+    ensures others { OnOk result (OthersKeep names.now.nets nexts.old.items nexts.new.items (stmt_targets (put_tree (word_at names.now.words name) (expr_tree names.now.words (numbered at.entry)) (expr_tree names.now.words (numbered value.entry))))) }
+    ensures acts { OnOk result (Acts from names.now.nets nets.now guard nl.old.cells nl.new.cells nexts.old.items nexts.new.items (put_tree (word_at names.now.words name) (expr_tree names.now.words (numbered at.entry)) (expr_tree names.now.words (numbered value.entry)))) }
 {
     let place = place_of(names, name);
     let width = name_width(names, name);
@@ -278,48 +278,41 @@ pub fn act(
     nets: &[Option<NetId>],
     nexts: &mut Vec<Next>,
     guard: Option<NetId>,
-    stmt: &Stmt,
+    stmt: Stmt<'_>,
 ) -> Result<(), AllocError>
     requires from { from ≤ length nl.old.cells }
-    requires nets { AreNets names.now nets.now nl.old.cells }
-    requires sound { IsSoundStmt names.now (stmt_tree stmt.now) }
-    requires ready { IsReadyStmt names.now nets.now (stmt_tree stmt.now) }
+    requires nets { AreNets names.now.nets nets.now nl.old.cells }
+    requires sound { IsSoundStmt names.now.nets (stmt_tree names.now.words (numbered_stmt stmt)) }
+    requires ready { IsReadyStmt names.now.nets nets.now (stmt_tree names.now.words (numbered_stmt stmt)) }
     requires guard { IsGuardNet nl.old.cells guard }
-    requires nexts { FitNexts names.now nexts.old.items nl.old.cells }
-    requires fresh { AreFresh names.now nexts.old.items (stmt_targets (stmt_tree stmt.now)) }
-    requires room { HasRoom nl.old (8 * stmt_weight 0 (stmt_tree stmt.now)) }
-    ensures { OnOk result (IsActed from names.now nets.now guard nl.old nl.new nexts.old.items nexts.new.items (stmt_tree stmt.now)) }
+    requires nexts { FitNexts names.now.nets nexts.old.items nl.old.cells }
+    requires fresh { AreFresh names.now.nets nexts.old.items (stmt_targets (stmt_tree names.now.words (numbered_stmt stmt))) }
+    requires room { HasRoom nl.old (8 * stmt_weight 0 (stmt_tree names.now.words (numbered_stmt stmt))) }
+    ensures { OnOk result (IsActed from names.now.nets nets.now guard nl.old nl.new nexts.old.items nexts.new.items (stmt_tree names.now.words (numbered_stmt stmt.entry))) }
 {
-    match stmt {
-        Stmt::Set { name, value } => assign(nl, from, names, nets, nexts, guard, name, value),
-        Stmt::Put { name, at, value } => write(
+    match stmt.root() {
+        StmtRoot::Set { name, value } => assign(nl, from, names, nets, nexts, guard, name, value),
+        StmtRoot::Put { name, at, value } => write(
             nl, from, names, nets, nexts, guard, name, at, value,
         ),
-        Stmt::If {
-            test,
-            yes,
-            no: None,
-        } => {
+        StmtRoot::When(test, then) => {
             let zero = fails(nl, from, names, nets, test)?;
             let first = unless(nl, from, guard, zero)?;
-            act(nl, from, names, nets, nexts, Some(first), yes)
+            act(nl, from, names, nets, nexts, Some(first), then)
         }
-        Stmt::If {
-            test,
-            yes,
-            no: Some(no),
-        } => {
+        StmtRoot::Either(test, then, otherwise) => {
             let zero = fails(nl, from, names, nets, test)?;
             let first = unless(nl, from, guard, zero)?;
             let second = also(nl, from, guard, zero)?;
-            act(nl, from, names, nets, nexts, Some(first), yes)?;
-            act(nl, from, names, nets, nexts, Some(second), no)
+            act(nl, from, names, nets, nexts, Some(first), then)?;
+            act(nl, from, names, nets, nexts, Some(second), otherwise)
         }
-        Stmt::Block(stmts) => act_all(nl, from, names, nets, nexts, guard, stmts),
+        StmtRoot::End => Ok(()),
+        StmtRoot::Then(first, rest) => act_all(nl, from, names, nets, nexts, guard, first, rest),
     }
 }
 
-/// What registers and memories take after the statements of a block.
+/// What registers and memories take after a statement and those behind it.
 #[tactic(auto, using(crate::proofs::EdgeFits::growing))]
 #[cycle(acting)]
 fn act_all(
@@ -329,20 +322,28 @@ fn act_all(
     nets: &[Option<NetId>],
     nexts: &mut Vec<Next>,
     guard: Option<NetId>,
-    stmts: &[Stmt],
+    first: Stmt<'_>,
+    rest: Stmt<'_>,
 ) -> Result<(), AllocError>
     requires from { from ≤ length nl.old.cells }
-    requires nets { AreNets names.now nets.now nl.old.cells }
-    requires sound { IsSoundStmt names.now (block_of (map stmt_tree stmts.now)) }
-    requires ready { IsReadyStmt names.now nets.now (block_of (map stmt_tree stmts.now)) }
+    requires nets { AreNets names.now.nets nets.now nl.old.cells }
+    requires sound { IsSoundStmt names.now.nets (block_more (stmt_tree names.now.words (numbered_stmt first)) (stmt_tree names.now.words (numbered_stmt rest))) }
+    requires ready { IsReadyStmt names.now.nets nets.now (block_more (stmt_tree names.now.words (numbered_stmt first)) (stmt_tree names.now.words (numbered_stmt rest))) }
     requires guard { IsGuardNet nl.old.cells guard }
-    requires nexts { FitNexts names.now nexts.old.items nl.old.cells }
-    requires fresh { AreFresh names.now nexts.old.items (stmt_targets (block_of (map stmt_tree stmts.now))) }
-    requires room { HasRoom nl.old (8 * stmt_weight 0 (block_of (map stmt_tree stmts.now))) }
-    ensures { OnOk result (IsActed from names.now nets.now guard nl.old nl.new nexts.old.items nexts.new.items (block_of (map stmt_tree stmts.now))) }
+    requires nexts { FitNexts names.now.nets nexts.old.items nl.old.cells }
+    requires fresh { AreFresh names.now.nets nexts.old.items (stmt_targets (block_more (stmt_tree names.now.words (numbered_stmt first)) (stmt_tree names.now.words (numbered_stmt rest)))) }
+    requires room { HasRoom nl.old (8 * stmt_weight 0 (block_more (stmt_tree names.now.words (numbered_stmt first)) (stmt_tree names.now.words (numbered_stmt rest)))) }
+    ensures { OnOk result (IsActed from names.now.nets nets.now guard nl.old nl.new nexts.old.items nexts.new.items (block_more (stmt_tree names.now.words (numbered_stmt first.entry)) (stmt_tree names.now.words (numbered_stmt rest.entry)))) }
 {
-    for stmt in stmts {
-        act(nl, from, names, nets, nexts, guard, stmt)?;
+    act(nl, from, names, nets, nexts, guard, first)?;
+    let mut left = rest;
+    'next: loop {
+        match left.root() {
+            StmtRoot::Then(stmt, more) => {
+                act(nl, from, names, nets, nexts, guard, stmt)?;
+                left = more;
+            }
+            _ => return act(nl, from, names, nets, nexts, guard, left),
+        }
     }
-    Ok(())
 }

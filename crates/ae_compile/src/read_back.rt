@@ -34,7 +34,7 @@ fn text_memory_alone(fault: VFault) -> OutOfMemory
 }
 
 // The netlist of a well-formed module.
-fn netlist_of(alloc: Global, m: &VModule) -> Result<Netlist, OutOfMemory>
+fn netlist_of(alloc: Global, m: &VModule<'_>) -> Result<Netlist, OutOfMemory>
     requires spelled { (text : List ℕ) × (length text < 2 ^ 32) × Spells text (module_tree m.now) }
     requires formed { IsWellFormed (module_tree m.now) }
     ensures { IfOk result (λ nl. HasSameRuns (module_tree m.now) nl) }

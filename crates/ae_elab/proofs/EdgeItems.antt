@@ -1,5 +1,5 @@
 -- Items one after the other.
-use Rattle.std.proofs.Common.{ℕ, ◌≡◌, ◌+◌, ◌*◌, ◌<◌, ◌≤◌, true, List, [], ◌∷◌, length, Option, None, arith, refl, ap, ◌∙◌}
+use Rattle.std.proofs.Common.{ℕ, zero, suc, ◌≡◌, ◌+◌, ◌*◌, ◌<◌, ◌≤◌, true, List, [], ◌∷◌, length, map, drop, get_or, Option, None, arith, refl, sym, ap, ◌∙◌}
 use Rattle.std.specs.List.{AllByRecursion, flat_map, sum_by}
 use Rattle.ae_netlist.specs.declared.cell.NetId.{NetId}
 use Rattle.ae_netlist.specs.declared.cell.SizedCell.{SizedCell}
@@ -76,3 +76,19 @@ module _ (from : ℕ) (ns : List NetTree) (ys : List (Option NetId)) (old : Circ
 
   pub items_done : (new : Circuit) (after : List Next) → AreActing from ns ys old new before after whole [] → ActsItems from ns ys new.cells before after whole
   items_done new after h = λ at named all k run is t l. h.acts at named all k run is t l
+
+-- the element whose turn it is, and those behind it
+module _ {X Y : Type 0} (f : X → Y) where
+  pub drop_turn : (xs : List X) (i : ℕ) (x : X) → i < length xs → x ≡ get_or xs i x → drop i (map f xs) ≡ f x ∷ drop (i + 1) (map f xs)
+  drop_turn [] i x l e = absurd (omega arith)
+  drop_turn (y ∷ xs) zero x l e = let s : x ≡ y = e in ap (λ z. f z ∷ map f xs) (sym s)
+  drop_turn (y ∷ xs) (suc i) x l e = drop_turn xs i x (omega arith) e ∙ ap (λ k. f x ∷ k) (drops i)
+    where
+      drops : (i : ℕ) → drop (i + 1) (map f xs) ≡ drop (suc i + 1) (map f (y ∷ xs))
+      drops i = let z : suc i + 1 ≡ suc (i + 1) = omega arith in rw z refl
+
+  pub drop_done : (xs : List X) (i : ℕ) → length xs ≤ i → drop i (map f xs) ≡ []
+  drop_done [] zero l = refl
+  drop_done [] (suc i) l = refl
+  drop_done (x ∷ xs) zero l = absurd (omega arith)
+  drop_done (x ∷ xs) (suc i) l = drop_done xs i (omega arith)

@@ -9,3 +9,4 @@ mod Realizing
 mod Showing
 mod WeightParts
 mod Wiring
+mod Tables

@@ -1,14 +1,15 @@
 // From a module to its netlist.
 
-ghost use Rattle.std.specs.Prelude.{◌≡◌, ◌<◌, ◌≤◌, ◌*◌, ◌^◌, ℕ, List, length, map, option_map, IfErr, IfOk, OnOk};
+ghost use Rattle.std.specs.Prelude.{◌≡◌, ◌<◌, ◌≤◌, ◌*◌, ◌^◌, ℕ, List, length, map, IfErr, IfOk, OnOk};
 ghost use Rattle.ae_vread.specs.Spells.{Spells};
-ghost use Rattle.ae_vread.specs.View.{expr_tree, module_tree};
+ghost use Rattle.ae_vread.specs.View.{module_tree};
+ghost use Rattle.ae_judge.specs.Table.{table_of};
 ghost use Rattle.ae_judge.specs.Weight.{weight};
 ghost use Rattle.ae_judge.specs.Faults.{IsFault, IsWellFormed};
 ghost use Rattle.ae_judge.specs.Regular.{IsRegular};
 ghost use Rattle.ae_judge.specs.Shape.{IsShapely};
 ghost use Rattle.ae_runs.specs.SameRuns.{HasSameRuns};
-ghost use Rattle.ae_order.specs.Drives.{IsWireOrder, values_of};
+ghost use Rattle.ae_order.specs.Drives.{IsWireOrder, value_tree, values_of};
 ghost use Rattle.ae_elab.specs.Declaring.{HasPlainPorts};
 ghost use Rattle.ae_runs.specs.Realizes.{Realizes};
 
@@ -31,14 +32,14 @@ const MOST_CELLS: u32 = 80_000_000;
 fn construct(
     alloc: Global,
     names: &Names<'_>,
-    m: &VModule,
-    values: &[Option<&Expr>],
+    m: &VModule<'_>,
+    values: &[Option<Expr<'_>>],
     order: &[u32],
 ) -> Result<Netlist, AllocError>
-    requires names { names.now ≡ (module_tree m.now).nets }
+    requires names { names.now ≡ table_of m.now.words m.now.nets.items }
     requires shape { IsShapely (module_tree m.now) }
     requires regular { IsRegular (module_tree m.now) }
-    requires values { map (λ v. option_map (λ e. expr_tree e.now) v) values.now ≡ values_of (module_tree m.now) }
+    requires values { map (value_tree names.now.words) values.now ≡ values_of (module_tree m.now) }
     requires sorted { IsWireOrder (module_tree m.now) order.now }
     requires small { weight (module_tree m.now) ≤ 10000000 }
     ensures realizes { IfOk result (λ n. (at : List ℕ → ℕ) × Realizes (module_tree m.now) n at) }
@@ -55,8 +56,8 @@ fn construct(
 }
 
 /// The netlist of a module that has no fault but, it may be, a loop or too great a weight.
-fn ordered(alloc: Global, names: &Names<'_>, m: &VModule) -> Result<Netlist, ElabFault>
-    requires names { names.now ≡ (module_tree m.now).nets }
+fn ordered(alloc: Global, names: &Names<'_>, m: &VModule<'_>) -> Result<Netlist, ElabFault>
+    requires names { names.now ≡ table_of m.now.words m.now.nets.items }
     requires shape { IsShapely (module_tree m.now) }
     requires regular { IsRegular (module_tree m.now) }
     ensures well_formed { OnOk result (IsWellFormed (module_tree m.now)) }
@@ -76,7 +77,7 @@ fn ordered(alloc: Global, names: &Names<'_>, m: &VModule) -> Result<Netlist, Ela
 /// formed; else its first fault, in the order of `ElabFault`, or `Memory` where memory ran out. At most 8 cells for each
 /// unit of weight. The time is linear in the module, as long as each name is found in time linear in it. The rules are
 /// those of docs/VERILOG.md.
-pub fn elaborate(alloc: Global, m: &VModule) -> Result<Netlist, ElabFault>
+pub fn elaborate(alloc: Global, m: &VModule<'_>) -> Result<Netlist, ElabFault>
     requires spelled { (text : List ℕ) × (length text < 2 ^ 32) × Spells text (module_tree m.now) }
     ensures well_formed { OnOk result (IsWellFormed (module_tree m.now)) }
     ensures fault { IfErr result (λ f. IsFault (module_tree m.now) f) }
@@ -85,7 +86,7 @@ pub fn elaborate(alloc: Global, m: &VModule) -> Result<Netlist, ElabFault>
     ensures plain { IfOk result (λ n. HasPlainPorts n) }
 {
     spelled_shape();
-    let names = Names::of(alloc, &m.nets)?;
+    let names = Names::of(alloc, &m.words, &m.nets)?;
     judge(alloc, m, &names)?;
     let nl = ordered(alloc, &names, m)?;
     has_one_run(&nl);

@@ -5,6 +5,7 @@ ghost use Rattle.ae_vread.specs.declared.module.NetKind.TheVariants.{Memory};
 ghost use Rattle.ae_vread.specs.View.{module_tree};
 ghost use Rattle.ae_netlist.specs.Circuit.{new_memory, new_register};
 ghost use Rattle.ae_netlist.specs.Counts.{count_of, is_input};
+ghost use Rattle.ae_judge.specs.Table.{table_of};
 ghost use Rattle.ae_judge.specs.Regular.{IsRegular};
 ghost use Rattle.ae_judge.specs.Shape.{IsShapely};
 ghost use Rattle.ae_gates.specs.Cells.{HasRoom};
@@ -73,9 +74,9 @@ pub fn declare_nets(
     alloc: Global,
     nl: &mut Netlist,
     names: &Names<'_>,
-    m: &VModule,
+    m: &VModule<'_>,
 ) -> Result<Vec<Option<NetId>>, AllocError>
-    requires names { names.now ≡ (module_tree m.now).nets }
+    requires names { names.now ≡ table_of m.now.words m.now.nets.items }
     requires shape { IsShapely (module_tree m.now) }
     requires regular { IsRegular (module_tree m.now) }
     requires empty { nl.old.cells ≡ [] }
@@ -87,7 +88,7 @@ pub fn declare_nets(
     let clock = clock_of(names, &m.items);
     let mut nets = Vec::new(alloc);
     for net in &m.nets {
-        let is_clock = is_named(net.name.as_str(), clock);
+        let is_clock = is_named(names, net.name, clock);
         let found = declare(nl, net, is_clock)?;
         nets.push(found)?;
     }

@@ -6,6 +6,7 @@ ghost use Rattle.ae_netlist.specs.Runs.{Clock, IsRun};
 ghost use Rattle.ae_vread.specs.ModuleTree.{NetTree};
 ghost use Rattle.ae_vread.specs.View.{item_tree, module_tree, net_tree};
 ghost use Rattle.ae_judge.specs.Names.{is_clock, item_targets};
+ghost use Rattle.ae_judge.specs.Table.{table_of};
 ghost use Rattle.ae_judge.specs.Faults.{NetAt};
 ghost use Rattle.ae_runs.specs.Runs.{IsStep};
 ghost use Rattle.ae_judge.specs.Regular.{IsRegular};
@@ -19,7 +20,7 @@ ghost use Rattle.ae_assign.specs.Edges.{ActsItems, AreFresh, FitNexts, FitsNext,
 use ae_assign::{Next, act};
 use ae_judge::Names;
 use ae_netlist::{NetId, Netlist};
-use ae_vread::{VItem, VModule, VNet};
+use ae_vread::{VItem, VModule, VNet, Words};
 use std::alloc::{AllocError, Global};
 
 /// What registers and memories take after an item.
@@ -33,23 +34,23 @@ fn act_item(
     item: &VItem,
 ) -> Result<(), AllocError>
     requires from { from ≤ length nl.old.cells }
-    requires nets { AreNets names.now nets.now nl.old.cells }
-    requires active { IsActiveItem names.now nets.now (item_tree item.now) }
-    requires nexts { FitNexts names.now nexts.old.items nl.old.cells }
-    requires fresh { AreFresh names.now nexts.old.items (item_targets (item_tree item.now)) }
-    requires room { HasRoom nl.old (8 * edge_weight (item_tree item.now)) }
+    requires nets { AreNets names.now.nets nets.now nl.old.cells }
+    requires active { IsActiveItem names.now.nets nets.now (item_tree names.now.words item.now) }
+    requires nexts { FitNexts names.now.nets nexts.old.items nl.old.cells }
+    requires fresh { AreFresh names.now.nets nexts.old.items (item_targets (item_tree names.now.words item.now)) }
+    requires room { HasRoom nl.old (8 * edge_weight (item_tree names.now.words item.now)) }
     ensures grows { OnOk result (GrowsByGates nl.old nl.new) }
     ensures more { OnOk result (length nl.old.cells ≤ length nl.new.cells) }
-    ensures few { OnOk result (length nl.new.cells ≤ length nl.old.cells + 8 * edge_weight (item_tree item.now)) }
-    ensures nexts { OnOk result (FitNexts names.now nexts.new.items nl.new.cells) }
-    ensures others { OnOk result (OthersKeep names.now nexts.old.items nexts.new.items (item_targets (item_tree item.now))) }
-    ensures acts { OnOk result (ActsItems from names.now nets.now nl.new.cells nexts.old.items nexts.new.items (item_tree item.now ∷ [])) }
+    ensures few { OnOk result (length nl.new.cells ≤ length nl.old.cells + 8 * edge_weight (item_tree names.now.words item.now)) }
+    ensures nexts { OnOk result (FitNexts names.now.nets nexts.new.items nl.new.cells) }
+    ensures others { OnOk result (OthersKeep names.now.nets nexts.old.items nexts.new.items (item_targets (item_tree names.now.words item.now))) }
+    ensures acts { OnOk result (ActsItems from names.now.nets nets.now nl.new.cells nexts.old.items nexts.new.items (item_tree names.now.words item.now ∷ [])) }
 {
     match item {
         VItem::Nets(_) => Ok(()),
         VItem::Assign(_) => Ok(()),
         VItem::Always { body, .. } => {
-            act(nl, from, names, nets, nexts, None, body)?;
+            act(nl, from, names, nets, nexts, None, body.stmt())?;
             Ok(())
         }
     }
@@ -65,15 +66,15 @@ fn act_items(
     items: &[VItem],
 ) -> Result<(), AllocError>
     requires from { from ≤ length nl.old.cells }
-    requires nets { AreNets names.now nets.now nl.old.cells }
-    requires active { AllByRecursion (IsActiveItem names.now nets.now) (map item_tree items.now) }
-    requires nexts { FitNexts names.now nexts.old.items nl.old.cells }
-    requires fresh { AreFresh names.now nexts.old.items (flat_map item_targets (map item_tree items.now)) }
-    requires room { HasRoom nl.old (8 * sum_by edge_weight (map item_tree items.now)) }
+    requires nets { AreNets names.now.nets nets.now nl.old.cells }
+    requires active { AllByRecursion (IsActiveItem names.now.nets nets.now) (map (item_tree names.now.words) items.now) }
+    requires nexts { FitNexts names.now.nets nexts.old.items nl.old.cells }
+    requires fresh { AreFresh names.now.nets nexts.old.items (flat_map item_targets (map (item_tree names.now.words) items.now)) }
+    requires room { HasRoom nl.old (8 * sum_by edge_weight (map (item_tree names.now.words) items.now)) }
     ensures grows { OnOk result (GrowsByGates nl.old nl.new) }
-    ensures few { OnOk result (length nl.new.cells ≤ length nl.old.cells + 8 * sum_by edge_weight (map item_tree items.now)) }
-    ensures nexts { OnOk result (FitNexts names.now nexts.new.items nl.new.cells) }
-    ensures acts { OnOk result (ActsItems from names.now nets.now nl.new.cells nexts.old.items nexts.new.items (map item_tree items.now)) }
+    ensures few { OnOk result (length nl.new.cells ≤ length nl.old.cells + 8 * sum_by edge_weight (map (item_tree names.now.words) items.now)) }
+    ensures nexts { OnOk result (FitNexts names.now.nets nexts.new.items nl.new.cells) }
+    ensures acts { OnOk result (ActsItems from names.now.nets nets.now nl.new.cells nexts.old.items nexts.new.items (map (item_tree names.now.words) items.now)) }
 {
     for item in items {
         act_item(nl, from, names, nets, nexts, item)?;
@@ -82,16 +83,16 @@ fn act_items(
 }
 
 /// Connects a register or a memory to what it takes.
-fn connect(nl: &mut Netlist, _from: u32, x: &VNet, net: NetId, next: Next)
-    requires unconnected { IsUnconnected (net_tree x.now).kind nl.old.cells net.0 (net_tree x.now).width }
-    requires early { is_state (net_tree x.now) ≡ true → net.0 < _from }
-    requires fits { FitsNext nl.old.cells (net_tree x.now) next }
+fn connect(nl: &mut Netlist, _from: u32, _words: &Words<'_>, x: &VNet, net: NetId, next: Next)
+    requires unconnected { IsUnconnected (net_tree _words.now x.now).kind nl.old.cells net.0 (net_tree _words.now x.now).width }
+    requires early { is_state (net_tree _words.now x.now) ≡ true → net.0 < _from }
+    requires fits { FitsNext nl.old.cells (net_tree _words.now x.now) next }
     ensures connects { Connects _from nl.old nl.new }
     ensures long { length nl.new.cells ≡ length nl.old.cells }
     ensures constants { KeepsConstants nl.old.cells nl.new.cells }
     ensures others { OthersStay nl.old.cells nl.new.cells net.0 }
-    ensures stays { is_state (net_tree x.now) ≡ false → nl.new ≡ nl.old }
-    ensures connected { IsConnected (net_tree x.now).kind nl.new.cells net.0 (net_tree x.now).width next }
+    ensures stays { is_state (net_tree _words.now x.now) ≡ false → nl.new ≡ nl.old }
+    ensures connected { IsConnected (net_tree _words.now x.now).kind nl.new.cells net.0 (net_tree _words.now x.now).width next }
 {
     match next {
         Next::Keep => (),
@@ -101,7 +102,7 @@ fn connect(nl: &mut Netlist, _from: u32, x: &VNet, net: NetId, next: Next)
 }
 
 /// Connects each register and each memory to what it takes.
-fn connect_all(nl: &mut Netlist, from: u32, m: &VModule, nets: &[Option<NetId>], nexts: &[Next])
+fn connect_all(nl: &mut Netlist, from: u32, m: &VModule<'_>, nets: &[Option<NetId>], nexts: &[Next])
     requires long { length nets.now ≡ length (module_tree m.now).nets }
     requires unconnected { AreUnconnected (module_tree m.now) from nets.now nl.old.cells }
     requires fits { FitNexts (module_tree m.now).nets nexts.now nl.old.cells }
@@ -112,7 +113,7 @@ fn connect_all(nl: &mut Netlist, from: u32, m: &VModule, nets: &[Option<NetId>],
 {
     for place in 0..nexts.len() {
         if let Some(net) = nets[place] {
-            connect(nl, from, &m.nets[place], net, nexts[place]);
+            connect(nl, from, &m.words, &m.nets[place], net, nexts[place]);
         }
     }
 }
@@ -132,10 +133,10 @@ pub fn perform(
     nl: &mut Netlist,
     from: u32,
     names: &Names<'_>,
-    m: &VModule,
+    m: &VModule<'_>,
     nets: &[Option<NetId>],
 ) -> Result<(), AllocError>
-    requires names { names.now ≡ (module_tree m.now).nets }
+    requires names { names.now ≡ table_of m.now.words m.now.nets.items }
     requires shape { IsShapely (module_tree m.now) }
     requires regular { IsRegular (module_tree m.now) }
     requires from { from ≤ length nl.old.cells }

@@ -52,7 +52,11 @@ fn show(nl: &mut Netlist, kind: NetKind, net: Option<NetId>) -> Result<(), Alloc
 }
 
 /// Adds the outputs of a module, in order, each as a plain port.
-pub fn add_outputs(nl: &mut Netlist, m: &VModule, nets: &[Option<NetId>]) -> Result<(), AllocError>
+pub fn add_outputs(
+    nl: &mut Netlist,
+    m: &VModule<'_>,
+    nets: &[Option<NetId>],
+) -> Result<(), AllocError>
     requires shape { IsShapely (module_tree m.now) }
     requires none { nl.old.outlets ≡ [] }
     requires nets { AreNets (module_tree m.now).nets nets.now nl.old.cells }

@@ -1,16 +1,17 @@
 // The nets of wires.
 
-ghost use Rattle.std.specs.Prelude.{◌≡◌, ◌<◌, ◌≤◌, ◌+◌, ◌*◌, Some, length, map, option_map, slice_get, slice_set, OnOk};
+ghost use Rattle.std.specs.Prelude.{◌≡◌, ◌<◌, ◌≤◌, ◌+◌, ◌*◌, ℕ, List, Some, length, map, slice_get, slice_set, OnOk};
 ghost use Rattle.std.specs.List.{sum_by};
 ghost use Rattle.ae_vread.specs.ModuleTree.{NetTree};
-ghost use Rattle.ae_vread.specs.View.{expr_tree, module_tree};
+ghost use Rattle.ae_vread.specs.View.{module_tree};
 ghost use Rattle.ae_judge.specs.Names.{equations};
 ghost use Rattle.ae_judge.specs.Faults.{NetAt};
+ghost use Rattle.ae_judge.specs.Table.{table_of};
 ghost use Rattle.ae_judge.specs.Weight.{drive_weight};
 ghost use Rattle.ae_judge.specs.Regular.{IsRegular};
 ghost use Rattle.ae_judge.specs.Shape.{IsShapely};
 ghost use Rattle.ae_gates.specs.Cells.{GrowsByGates, HasRoom};
-ghost use Rattle.ae_order.specs.Drives.{IsWireOrder, values_of};
+ghost use Rattle.ae_order.specs.Drives.{IsWireOrder, value_tree, values_of};
 ghost use Rattle.ae_elab.specs.Declaring.{AreDeclared};
 ghost use Rattle.ae_elab.specs.Wiring.{AreWired, IsWiring, KeepsNets, open_weight};
 
@@ -28,14 +29,14 @@ fn place_at(order: &[u32], turn: usize) -> usize
 }
 
 /// The value of the equation at a place, if there is one.
-fn value_at<'m>(values: &[Option<&'m Expr>], place: usize) -> Option<&'m Expr>
+fn value_at<'m>(values: &[Option<Expr<'m>>], place: usize) -> Option<Expr<'m>>
     requires inside { place < length values.now }
-    ensures { slice_get (map (λ v. option_map (λ e. expr_tree e.now) v) values.now) place ≡ Some (option_map (λ e. expr_tree e.now) result) }
+    ensures { (ws : List (List ℕ)) → slice_get (map (value_tree ws) values.now) place ≡ Some (value_tree ws result) }
 {
     values[place]
 }
 
-fn net_width(m: &VModule, place: usize) -> u32
+fn net_width(m: &VModule<'_>, place: usize) -> u32
     requires inside { place < length (module_tree m.now).nets }
     ensures { (x : NetTree) → NetAt (module_tree m.now) place x → result ≡ x.width }
 {
@@ -54,16 +55,16 @@ fn add_wire(
     nl: &mut Netlist,
     from: u32,
     names: &Names<'_>,
-    m: &VModule,
-    values: &[Option<&Expr>],
+    m: &VModule<'_>,
+    values: &[Option<Expr<'_>>],
     order: &[u32],
     turn: usize,
     nets: &mut Vec<Option<NetId>>,
 ) -> Result<(), AllocError>
-    requires names { names.now ≡ (module_tree m.now).nets }
+    requires names { names.now ≡ table_of m.now.words m.now.nets.items }
     requires shape { IsShapely (module_tree m.now) }
     requires regular { IsRegular (module_tree m.now) }
-    requires values { map (λ v. option_map (λ e. expr_tree e.now) v) values.now ≡ values_of (module_tree m.now) }
+    requires values { map (value_tree names.now.words) values.now ≡ values_of (module_tree m.now) }
     requires sorted { IsWireOrder (module_tree m.now) order.now }
     requires inside { turn < length order.now }
     requires wiring { IsWiring (module_tree m.now) from order.now turn nets.old.items nl.old.cells }
@@ -90,15 +91,15 @@ pub fn add_wires(
     nl: &mut Netlist,
     from: u32,
     names: &Names<'_>,
-    m: &VModule,
-    values: &[Option<&Expr>],
+    m: &VModule<'_>,
+    values: &[Option<Expr<'_>>],
     order: &[u32],
     nets: &mut Vec<Option<NetId>>,
 ) -> Result<(), AllocError>
-    requires names { names.now ≡ (module_tree m.now).nets }
+    requires names { names.now ≡ table_of m.now.words m.now.nets.items }
     requires shape { IsShapely (module_tree m.now) }
     requires regular { IsRegular (module_tree m.now) }
-    requires values { map (λ v. option_map (λ e. expr_tree e.now) v) values.now ≡ values_of (module_tree m.now) }
+    requires values { map (value_tree names.now.words) values.now ≡ values_of (module_tree m.now) }
     requires sorted { IsWireOrder (module_tree m.now) order.now }
     requires from { from ≡ length nl.old.cells }
     requires declared { AreDeclared (module_tree m.now) (module_tree m.now).nets nets.old.items nl.old.cells }

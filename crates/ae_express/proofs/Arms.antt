@@ -1,5 +1,5 @@
 -- The value of each form of expression, from those of its parts.
-use Rattle.std.proofs.Common.{ℕ, ◌≡◌, ◌==◌, ◌≤◌, if◌then◌else◌, true, List, [], ◌∷◌, length, get_or, Option, Result, IfOk, refl, sym, ap, ◌∙◌, arith}
+use Rattle.std.proofs.Common.{ℕ, ◌≡◌, ◌==◌, if◌then◌else◌, true, List, get_or, Option, Result, IfOk, sym, ap, ◌∙◌}
 use Rattle.std.proofs.lemmas.Bool.{cond-true}
 use Rattle.ae_word.specs.declared.op.WordOp.TheVariants as op
 use Rattle.ae_word.specs.WordTable.{bit, word_result}
@@ -10,7 +10,6 @@ use Rattle.ae_netlist.specs.Runs.{Clock}
 use Rattle.ae_vread.specs.declared.module.UnOp.TheVariants.{Not, Flip}
 use Rattle.ae_vread.specs.declared.module.BinOp.{BinOp}
 use Rattle.ae_vread.specs.ModuleTree.{ExprTree, name, constant, place, part, index, unary, binary, choice, concat_one, concat_more, NetTree}
-use Rattle.ae_vread.specs.Reading.{concat_of}
 use Rattle.ae_judge.specs.Names.{is_memory_name}
 use Rattle.ae_judge.specs.Widths.{own_width}
 use Rattle.ae_runs.specs.Values.{ModuleClock, left_width, right_width, binary_result, value_at}
@@ -38,13 +37,6 @@ constant_is ns c w k (binary op a b) h = absurd h
 constant_is ns c w k (choice test a b) h = absurd h
 constant_is ns c w k (concat_one a) h = absurd h
 constant_is ns c w k (concat_more a rest) h = absurd h
-
--- a concatenation has one value at every width
-any_width : (ns : List NetTree) (c : ModuleClock) (ps : List ExprTree) (u w : ℕ) → 1 ≤ length ps
-    → value_at ns c u (concat_of ps) ≡ value_at ns c w (concat_of ps)
-any_width ns c [] u w l = absurd (omega arith)
-any_width ns c (p ∷ []) u w l = refl
-any_width ns c (p ∷ q ∷ ps) u w l = refl
 
 module _ (from : ℕ) (ns : List NetTree) (nets : List (Option NetId)) where
   pub index_arm : {E : Type 0} (before cells : List SizedCell) (r : Result NetId E) (n : List ℕ) (x u w : ℕ) (a : ExprTree) → is_memory_name ns n ≡ true
@@ -107,8 +99,13 @@ module _ (from : ℕ) (ns : List NetTree) (nets : List (Option NetId)) where
       (λ run t. ap (λ i. if value_at ns (read at run t) i test == 0 then value_at ns (read at run t) w b else value_at ns (read at run t) w a) e)
       (h _ _ _ (word_grows g2 (word_grows g1 (p at named))) (word_grows g2 (q at named)) (s at named)))
 
-  pub concat_arm : {E : Type 0} (m1 m2 : List SizedCell) (r : Result NetId E) (x u w : ℕ) (ps : List ExprTree) → 1 ≤ length ps
-      → Has from ns nets m1 x u (concat_of ps)
+  pub one_arm : {E : Type 0} (m1 m2 : List SizedCell) (r : Result NetId E) (x u w : ℕ) (a : ExprTree) → u ≡ own_width ns a → Has from ns nets m1 x u a
       → IfOk r (λ y. (f : List Clock → ℕ → ℕ) → IsWord from m1 x u f → IsWord from m2 y.0 w f)
-      → IfOk r (λ y. Has from ns nets m2 y.0 w (concat_of ps))
-  concat_arm m1 m2 r x u w ps some p = ok_map r (λ y h at named. same_word _ _ (λ run t. any_width ns (read at run t) ps u w some) (h _ (p at named)))
+      → IfOk r (λ y. Has from ns nets m2 y.0 w (concat_one a))
+  one_arm m1 m2 r x u w a own p = ok_map r (λ y h at named. same_word _ _ (λ run t. ap (λ k. value_at ns (read at run t) k a) own) (h _ (p at named)))
+
+  -- a concatenation has one value at every width
+  pub more_arm : {E : Type 0} (m1 m2 : List SizedCell) (r : Result NetId E) (x u w : ℕ) (a rest : ExprTree) → Has from ns nets m1 x u (concat_more a rest)
+      → IfOk r (λ y. (f : List Clock → ℕ → ℕ) → IsWord from m1 x u f → IsWord from m2 y.0 w f)
+      → IfOk r (λ y. Has from ns nets m2 y.0 w (concat_more a rest))
+  more_arm m1 m2 r x u w a rest p = ok_map r (λ y h at named. h _ (p at named))

@@ -1,6 +1,5 @@
 -- How an expression is lowered, one call behind the other.
 use Rattle.std.proofs.Common.{ℕ, ◌≡◌, ◌==◌, ◌+◌, ◌*◌, ◌≤◌, if◌then◌else◌, List, length, get_or, true, Option, Result, Ok, Err, IfOk, OnOk, refl, arith}
-use Rattle.std.specs.List.{sum_by}
 use Rattle.ae_word.specs.declared.op.WordOp.TheVariants as op
 use Rattle.ae_word.specs.WordTable.{bit, word_result}
 use Rattle.ae_netlist.specs.declared.cell.NetId.{NetId}
@@ -9,7 +8,6 @@ use Rattle.ae_netlist.specs.Runs.{Clock}
 use Rattle.ae_vread.specs.declared.module.UnOp.TheVariants.{Not, Flip}
 use Rattle.ae_vread.specs.declared.module.BinOp.{BinOp}
 use Rattle.ae_vread.specs.ModuleTree.{ExprTree, name, constant, place, part, index, unary, binary, choice, concat_one, concat_more, NetTree}
-use Rattle.ae_vread.specs.Reading.{concat_of}
 use Rattle.ae_judge.specs.Names.{is_memory_name}
 use Rattle.ae_judge.specs.Widths.{own_width}
 use Rattle.ae_judge.specs.Weight.{expr_weight, operator_weight, shift_weight}
@@ -20,12 +18,10 @@ use Rattle.ae_express.specs.Forms.{IsShiftForm, most_cells}
 use Rattle.ae_express.specs.ConstantValue.{IsConstantOf}
 use Rattle.ae_gates.specs.Cells.{GrowsByGates, IsWord}
 use Rattle.ae_runs.specs.Named.{AreNamed, AreNets, read}
-use Rattle.ae_express.specs.Parts.{part_weight}
 use Rattle.ae_express.specs.Lowered.{IsLowered}
 use Rattle.ae_gates.proofs.Words.{grows_refl, grows_trans}
 use Rattle.ae_express.proofs.NetLaws.{nets_grow}
-use Rattle.ae_express.proofs.Arms.{Has, index_arm, not_arm, flip_arm, constant_arm, binary_arm, choice_arm, concat_arm}
-use Rattle.ae_express.proofs.PartLaws.{parts_weight}
+use Rattle.ae_express.proofs.Arms.{Has, index_arm, not_arm, flip_arm, constant_arm, binary_arm, choice_arm, one_arm, more_arm}
 
 -- a call that adds at most k cells
 pub record AddsNet {E : Type 0} (r : Result NetId E) (old new : Circuit) (k w : ℕ) : Type 0 where
@@ -132,11 +128,18 @@ module _ {E : Type 0} (from : ℕ) (ns : List NetTree) (nets : List (Option NetI
       lowered from ns nets m0 m3 m4 r 3 _ w (choice test a b) (grows_trans p.grows (grows_trans q.grows s.grows)) (omega arith) (omega arith) s.nets adds
       (choice_arm from ns nets m1 m2 m3 m4 r k x y u w test a b own q.grows s.grows p.word q.word s.word word)
 
-  pub concat_lowered : (m0 m1 m2 : Circuit) (r : Result NetId E) (x u w : ℕ) (ps : List ExprTree) → 1 ≤ length ps
-      → IsLowered from ns nets m0 m1 (8 * sum_by part_weight ps) x u (concat_of ps) → AddsNet r m1 m2 1 w
+  pub one_lowered : (m0 m1 m2 : Circuit) (r : Result NetId E) (x u w : ℕ) (a : ExprTree) → u ≡ own_width ns a
+      → IsLowered from ns nets m0 m1 (8 * expr_weight a + 1) x u a → AddsNet r m1 m2 1 w
       → IfOk r (λ y. (f : List Clock → ℕ → ℕ) → IsWord from m1.cells x u f → IsWord from m2.cells y.0 w f)
-      → IfOk r (λ y. IsLowered from ns nets m0 m2 (8 * expr_weight (concat_of ps) + 1) y.0 w (concat_of ps))
-  concat_lowered m0 m1 m2 r x u w ps some p adds word =
-      let weighs = parts_weight ps some in
-      lowered from ns nets m0 m1 m2 r 1 _ w (concat_of ps) p.grows p.more (omega arith) p.nets adds
-      (concat_arm from ns nets m1.cells m2.cells r x u w ps some p.word word)
+      → IfOk r (λ y. IsLowered from ns nets m0 m2 (8 * expr_weight (concat_one a) + 1) y.0 w (concat_one a))
+  one_lowered m0 m1 m2 r x u w a own p adds word =
+      lowered from ns nets m0 m1 m2 r 1 _ w (concat_one a) p.grows p.more (omega arith) p.nets adds
+      (one_arm from ns nets m1.cells m2.cells r x u w a own p.word word)
+
+  pub more_lowered : (m0 m1 m2 : Circuit) (r : Result NetId E) (x u w : ℕ) (a rest : ExprTree)
+      → IsLowered from ns nets m0 m1 (8 * expr_weight (concat_more a rest)) x u (concat_more a rest) → AddsNet r m1 m2 1 w
+      → IfOk r (λ y. (f : List Clock → ℕ → ℕ) → IsWord from m1.cells x u f → IsWord from m2.cells y.0 w f)
+      → IfOk r (λ y. IsLowered from ns nets m0 m2 (8 * expr_weight (concat_more a rest) + 1) y.0 w (concat_more a rest))
+  more_lowered m0 m1 m2 r x u w a rest p adds word =
+      lowered from ns nets m0 m1 m2 r 1 _ w (concat_more a rest) p.grows p.more (omega arith) p.nets adds
+      (more_arm from ns nets m1.cells m2.cells r x u w a rest p.word word)

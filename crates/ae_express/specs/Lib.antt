@@ -1,5 +1,4 @@
 pub mod Forms
-pub mod Parts
 pub mod Lowered
 pub mod Asked
 pub mod ConstantValue

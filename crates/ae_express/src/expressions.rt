@@ -1,10 +1,9 @@
 // Expressions as cells.
 
-ghost use Rattle.std.specs.Prelude.{◌≡◌, ◌≤◌, ◌+◌, ◌*◌, ◌++◌, length, IfOk, OnOk, map};
-ghost use Rattle.std.specs.List.{sum_by};
-ghost use Rattle.ae_vread.specs.ModuleTree.{unary};
+ghost use Rattle.std.specs.Prelude.{◌≡◌, ◌≤◌, ◌+◌, ◌*◌, ◌++◌, length, IfOk, OnOk};
+ghost use Rattle.ae_vread.specs.ModuleTree.{concat_more, unary};
+ghost use Rattle.ae_vread.specs.Roots.{numbered};
 ghost use Rattle.ae_vread.specs.View.{expr_tree};
-ghost use Rattle.ae_vread.specs.Reading.{concat_of};
 ghost use Rattle.ae_judge.specs.Widths.{own_width};
 ghost use Rattle.ae_judge.specs.Weight.{expr_weight};
 ghost use Rattle.ae_gates.specs.Cells.{HasRoom};
@@ -12,7 +11,6 @@ ghost use Rattle.ae_express.specs.Asked.{EndsWith, part_widths};
 ghost use Rattle.ae_express.specs.Lowered.{IsLowered};
 ghost use Rattle.ae_runs.specs.Named.{AreNets};
 ghost use Rattle.ae_order.specs.Sound.{IsReadyFor, IsSound};
-ghost use Rattle.ae_express.specs.Parts.{part_weight};
 
 use crate::forms::{combine, fixed_shift, operand_widths};
 use crate::measure::last_width;
@@ -22,7 +20,7 @@ use ae_gates::{chosen, fixed, gate, is_zero, linked, moved_by, widen};
 use ae_judge::Names;
 use ae_netlist::{NetId, Netlist};
 use ae_order::place_number;
-use ae_vread::{Expr, UnOp};
+use ae_vread::{Expr, Root, UnOp};
 use ae_word::WordOp;
 use std::alloc::AllocError;
 
@@ -37,26 +35,26 @@ pub fn lower(
     nets: &[Option<NetId>],
     widths: &mut Vec<u32>,
     w: u32,
-    e: &Expr,
+    e: Expr<'_>,
 ) -> Result<NetId, AllocError>
     requires from { from ≤ length nl.old.cells }
-    requires nets { AreNets names.now nets.now nl.old.cells }
-    requires sound { IsSound names.now (expr_tree e.now) }
-    requires ready { IsReadyFor names.now nets.now (expr_tree e.now) }
+    requires nets { AreNets names.now.nets nets.now nl.old.cells }
+    requires sound { IsSound names.now.nets (expr_tree names.now.words (numbered e)) }
+    requires ready { IsReadyFor names.now.nets nets.now (expr_tree names.now.words (numbered e)) }
     requires low { 1 ≤ w }
     requires high { w ≤ 64 }
-    requires within { own_width names.now (expr_tree e.now) ≤ w }
-    requires room { HasRoom nl.old (8 * expr_weight (expr_tree e.now) + 1) }
-    requires widths { EndsWith widths.old.items (part_widths names.now (expr_tree e.now)) }
-    ensures widths { OnOk result (widths.old.items ≡ widths.new.items ++ part_widths names.now (expr_tree e.now)) }
-    ensures lowered { IfOk result (λ y. IsLowered from names.now nets.now nl.old nl.new (8 * expr_weight (expr_tree e.now) + 1) y.0 w (expr_tree e.now)) }
+    requires within { own_width names.now.nets (expr_tree names.now.words (numbered e)) ≤ w }
+    requires room { HasRoom nl.old (8 * expr_weight (expr_tree names.now.words (numbered e)) + 1) }
+    requires widths { EndsWith widths.old.items (part_widths names.now.nets (expr_tree names.now.words (numbered e))) }
+    ensures widths { OnOk result (widths.old.items ≡ widths.new.items ++ part_widths names.now.nets (expr_tree names.now.words (numbered e.entry))) }
+    ensures lowered { IfOk result (λ y. IsLowered from names.now.nets nets.now nl.old nl.new (8 * expr_weight (expr_tree names.now.words (numbered e.entry)) + 1) y.0 w (expr_tree names.now.words (numbered e.entry))) }
 {
-    match e {
-        Expr::Name(name) => read_name(nl, from, names, nets, w, name),
-        Expr::Const { value, .. } => fixed(nl, from, w, *value),
-        Expr::Place(_) => unreachable!(),
-        Expr::Part { name, high, low } => read_part(nl, from, names, nets, w, name, *high, *low),
-        Expr::Index { name, at } => match place_number(at) {
+    match e.root() {
+        Root::Name(name) => read_name(nl, from, names, nets, w, name),
+        Root::Const { value, .. } => fixed(nl, from, w, value),
+        Root::Place(_) => unreachable!(),
+        Root::Part { name, high, low } => read_part(nl, from, names, nets, w, name, high, low),
+        Root::Index { name, at } => match place_number(at) {
             Some(k) => read_place(nl, from, names, nets, w, name, k),
             None => {
                 let own = own_width(names, at);
@@ -64,28 +62,33 @@ pub fn lower(
                 read_word(nl, from, names, nets, w, name, x, own)
             }
         },
-        Expr::Unary(op, a) => lower_unary(nl, from, names, nets, widths, w, *op, a),
-        Expr::Binary(op, a, b) => match fixed_shift(*op, b) {
+        Root::Unary(op, a) => lower_unary(nl, from, names, nets, widths, w, op, a),
+        Root::Binary(op, a, b) => match fixed_shift(op, b) {
             Some((way, places)) => {
                 let x = lower(nl, from, names, nets, widths, w, a)?;
                 moved_by(nl, from, way, x, places, w)
             }
             None => {
-                let (wa, wb) = operand_widths(names, *op, w, a, b);
+                let (wa, wb) = operand_widths(names, op, w, a, b);
                 let x = lower(nl, from, names, nets, widths, wa, a)?;
                 let y = lower(nl, from, names, nets, widths, wb, b)?;
-                combine(nl, from, *op, w, x, wa, y, wb)
+                combine(nl, from, op, w, x, wa, y, wb)
             }
         },
-        Expr::Choose(test, a, b) => {
+        Root::Choose(test, a, b) => {
             let own = own_width(names, test);
             let t = lower(nl, from, names, nets, widths, own, test)?;
             let x = lower(nl, from, names, nets, widths, w, a)?;
             let y = lower(nl, from, names, nets, widths, w, b)?;
             chosen(nl, from, t, own, x, y, w)
         }
-        Expr::Concat(parts) => {
-            let (x, own) = lower_parts(nl, from, names, nets, widths, parts)?;
+        Root::One(a) => {
+            let own = last_width(widths);
+            let x = lower(nl, from, names, nets, widths, own, a)?;
+            widen(nl, from, x, own, w)
+        }
+        Root::More(a, rest) => {
+            let (x, own) = lower_parts(nl, from, names, nets, widths, a, rest)?;
             widen(nl, from, x, own, w)
         }
     }
@@ -102,19 +105,19 @@ fn lower_unary(
     widths: &mut Vec<u32>,
     w: u32,
     op: UnOp,
-    a: &Expr,
+    a: Expr<'_>,
 ) -> Result<NetId, AllocError>
     requires from { from ≤ length nl.old.cells }
-    requires nets { AreNets names.now nets.now nl.old.cells }
-    requires sound { IsSound names.now (unary op (expr_tree a.now)) }
-    requires ready { IsReadyFor names.now nets.now (unary op (expr_tree a.now)) }
+    requires nets { AreNets names.now.nets nets.now nl.old.cells }
+    requires sound { IsSound names.now.nets (unary op (expr_tree names.now.words (numbered a))) }
+    requires ready { IsReadyFor names.now.nets nets.now (unary op (expr_tree names.now.words (numbered a))) }
     requires low { 1 ≤ w }
     requires high { w ≤ 64 }
-    requires within { own_width names.now (unary op (expr_tree a.now)) ≤ w }
-    requires room { HasRoom nl.old (8 * expr_weight (unary op (expr_tree a.now)) + 1) }
-    requires widths { EndsWith widths.old.items (part_widths names.now (unary op (expr_tree a.now))) }
-    ensures widths { OnOk result (widths.old.items ≡ widths.new.items ++ part_widths names.now (unary op (expr_tree a.now))) }
-    ensures lowered { IfOk result (λ y. IsLowered from names.now nets.now nl.old nl.new (8 * expr_weight (unary op (expr_tree a.now)) + 1) y.0 w (unary op (expr_tree a.now))) }
+    requires within { own_width names.now.nets (unary op (expr_tree names.now.words (numbered a))) ≤ w }
+    requires room { HasRoom nl.old (8 * expr_weight (unary op (expr_tree names.now.words (numbered a))) + 1) }
+    requires widths { EndsWith widths.old.items (part_widths names.now.nets (unary op (expr_tree names.now.words (numbered a)))) }
+    ensures widths { OnOk result (widths.old.items ≡ widths.new.items ++ part_widths names.now.nets (unary op (expr_tree names.now.words (numbered a.entry)))) }
+    ensures lowered { IfOk result (λ y. IsLowered from names.now.nets nets.now nl.old nl.new (8 * expr_weight (unary op (expr_tree names.now.words (numbered a.entry))) + 1) y.0 w (unary op (expr_tree names.now.words (numbered a.entry)))) }
 {
     match op {
         UnOp::Not => {
@@ -139,27 +142,43 @@ fn lower_parts(
     names: &Names<'_>,
     nets: &[Option<NetId>],
     widths: &mut Vec<u32>,
-    parts: &[Expr],
+    first: Expr<'_>,
+    rest: Expr<'_>,
 ) -> Result<(NetId, u32), AllocError>
     requires from { from ≤ length nl.old.cells }
-    requires nets { AreNets names.now nets.now nl.old.cells }
-    requires sound { IsSound names.now (concat_of (map expr_tree parts.now)) }
-    requires ready { IsReadyFor names.now nets.now (concat_of (map expr_tree parts.now)) }
-    requires room { HasRoom nl.old (8 * sum_by part_weight (map expr_tree parts.now)) }
-    requires widths { EndsWith widths.old.items (part_widths names.now (concat_of (map expr_tree parts.now))) }
-    ensures widths { OnOk result (widths.old.items ≡ widths.new.items ++ part_widths names.now (concat_of (map expr_tree parts.now))) }
-    ensures own { IfOk result (λ r. r.1 ≡ own_width names.now (concat_of (map expr_tree parts.now))) }
-    ensures lowered { IfOk result (λ r. IsLowered from names.now nets.now nl.old nl.new (8 * sum_by part_weight (map expr_tree parts.now)) r.0.0 r.1 (concat_of (map expr_tree parts.now))) }
+    requires nets { AreNets names.now.nets nets.now nl.old.cells }
+    requires sound { IsSound names.now.nets (concat_more (expr_tree names.now.words (numbered first)) (expr_tree names.now.words (numbered rest))) }
+    requires ready { IsReadyFor names.now.nets nets.now (concat_more (expr_tree names.now.words (numbered first)) (expr_tree names.now.words (numbered rest))) }
+    requires room { HasRoom nl.old (8 * expr_weight (concat_more (expr_tree names.now.words (numbered first)) (expr_tree names.now.words (numbered rest)))) }
+    requires widths { EndsWith widths.old.items (part_widths names.now.nets (concat_more (expr_tree names.now.words (numbered first)) (expr_tree names.now.words (numbered rest)))) }
+    ensures widths { OnOk result (widths.old.items ≡ widths.new.items ++ part_widths names.now.nets (concat_more (expr_tree names.now.words (numbered first.entry)) (expr_tree names.now.words (numbered rest.entry)))) }
+    ensures own { IfOk result (λ r. r.1 ≡ own_width names.now.nets (concat_more (expr_tree names.now.words (numbered first.entry)) (expr_tree names.now.words (numbered rest.entry)))) }
+    ensures lowered { IfOk result (λ r. IsLowered from names.now.nets nets.now nl.old nl.new (8 * expr_weight (concat_more (expr_tree names.now.words (numbered first.entry)) (expr_tree names.now.words (numbered rest.entry)))) r.0.0 r.1 (concat_more (expr_tree names.now.words (numbered first.entry)) (expr_tree names.now.words (numbered rest.entry)))) }
 {
-    let first = &parts[0];
     let mut own = last_width(widths);
     let mut x = lower(nl, from, names, nets, widths, own, first)?;
-    for k in 1..parts.len() {
-        let part = &parts[k];
-        let wide = last_width(widths);
-        let low = lower(nl, from, names, nets, widths, wide, part)?;
-        x = linked(nl, from, x, own, low, wide)?;
-        own += wide;
+    let mut parts = rest;
+    'part: loop {
+        match parts.root() {
+            Root::More(part, more) => {
+                let wide = last_width(widths);
+                let low = lower(nl, from, names, nets, widths, wide, part)?;
+                x = linked(nl, from, x, own, low, wide)?;
+                own += wide;
+                parts = more;
+            }
+            Root::One(part) => {
+                let wide = last_width(widths);
+                let low = lower(nl, from, names, nets, widths, wide, part)?;
+                let y = linked(nl, from, x, own, low, wide)?;
+                return Ok((y, own + wide));
+            }
+            _ => {
+                let wide = own_width(names, parts);
+                let low = lower(nl, from, names, nets, widths, wide, parts)?;
+                let y = linked(nl, from, x, own, low, wide)?;
+                return Ok((y, own + wide));
+            }
+        }
     }
-    Ok((x, own))
 }

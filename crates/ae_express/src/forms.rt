@@ -1,8 +1,9 @@
 // Binary operators by the cells that they take.
 
-ghost use Rattle.std.specs.Prelude.{◌≡◌, ◌<◌, ◌≤◌, ◌+◌, ◌*◌, ℕ, List, length, IfNone, IfOk, IfSome, OnOk};
+ghost use Rattle.std.specs.Prelude.{ℕ, List, ◌≡◌, ◌<◌, ◌≤◌, ◌+◌, ◌*◌, ℕ, List, length, IfNone, IfOk, IfSome, OnOk};
 ghost use Rattle.ae_netlist.specs.Circuit.{IsNet};
 ghost use Rattle.ae_netlist.specs.Runs.{Clock};
+ghost use Rattle.ae_vread.specs.Roots.{numbered};
 ghost use Rattle.ae_vread.specs.View.{expr_tree};
 ghost use Rattle.ae_judge.specs.Widths.{binary_width, own_width};
 ghost use Rattle.ae_judge.specs.Weight.{operator_weight, shift_weight};
@@ -16,7 +17,7 @@ use crate::own::own_width;
 use ae_gates::{Way, compared, gate, opposed, shifted, tested};
 use ae_judge::Names;
 use ae_netlist::{NetId, Netlist};
-use ae_vread::{BinOp, Expr};
+use ae_vread::{BinOp, Expr, Root};
 use ae_word::WordOp;
 use std::alloc::AllocError;
 
@@ -67,21 +68,21 @@ pub fn form_of(op: BinOp) -> Form
 }
 
 /// The value of a constant.
-fn constant_value(e: &Expr) -> Option<u64>
-    ensures some { IfSome result (λ k. IsConstantOf k (expr_tree e.now)) }
-    ensures none { IfNone result (shift_weight (expr_tree e.now) ≡ 6) }
+fn constant_value(e: Expr<'_>) -> Option<u64>
+    ensures some { (ws : List (List ℕ)) → IfSome result (λ k. IsConstantOf k (expr_tree ws (numbered e.entry))) }
+    ensures none { (ws : List (List ℕ)) → IfNone result (shift_weight (expr_tree ws (numbered e.entry)) ≡ 6) }
 {
-    match e {
-        Expr::Const { value, .. } => Some(*value),
+    match e.root() {
+        Root::Const { value, .. } => Some(value),
         _ => None,
     }
 }
 
 /// The way and the places of a shift by a constant.
-pub fn fixed_shift(op: BinOp, amount: &Expr) -> Option<(Way, u64)>
+pub fn fixed_shift(op: BinOp, amount: Expr<'_>) -> Option<(Way, u64)>
     ensures way { IfSome result (λ s. IsShiftForm op s.0) }
-    ensures places { IfSome result (λ s. IsConstantOf s.1 (expr_tree amount.now)) }
-    ensures none { IfNone result (8 * operator_weight op (expr_tree amount.now) ≡ most_cells op + 1) }
+    ensures places { (ws : List (List ℕ)) → IfSome result (λ s. IsConstantOf s.1 (expr_tree ws (numbered amount.entry))) }
+    ensures none { (ws : List (List ℕ)) → IfNone result (8 * operator_weight op (expr_tree ws (numbered amount.entry)) ≡ most_cells op + 1) }
 {
     match form_of(op) {
         Form::Shift(way) => match constant_value(amount) {
@@ -94,15 +95,15 @@ pub fn fixed_shift(op: BinOp, amount: &Expr) -> Option<(Way, u64)>
 
 /// The widths at which both operands are computed, where `w` is handed down. An operand's own width is added up only where
 /// the operator asks for it, so that a long sum takes time linear in it.
-pub fn operand_widths(names: &Names<'_>, op: BinOp, w: u32, a: &Expr, b: &Expr) -> (u32, u32)
-    requires left_sound { IsSound names.now (expr_tree a.now) }
-    requires right_sound { IsSound names.now (expr_tree b.now) }
-    requires within { binary_width op (own_width names.now (expr_tree a.now)) (own_width names.now (expr_tree b.now)) ≤ w }
+pub fn operand_widths(names: &Names<'_>, op: BinOp, w: u32, a: Expr<'_>, b: Expr<'_>) -> (u32, u32)
+    requires left_sound { IsSound names.now.nets (expr_tree names.now.words (numbered a)) }
+    requires right_sound { IsSound names.now.nets (expr_tree names.now.words (numbered b)) }
+    requires within { binary_width op (own_width names.now.nets (expr_tree names.now.words (numbered a))) (own_width names.now.nets (expr_tree names.now.words (numbered b))) ≤ w }
     requires high { w ≤ 64 }
-    ensures left { result.0 ≡ left_width op w (own_width names.now (expr_tree a.now)) (own_width names.now (expr_tree b.now)) }
-    ensures right { result.1 ≡ right_width op w (own_width names.now (expr_tree a.now)) (own_width names.now (expr_tree b.now)) }
-    ensures left_within { own_width names.now (expr_tree a.now) ≤ result.0 }
-    ensures right_within { own_width names.now (expr_tree b.now) ≤ result.1 }
+    ensures left { result.0 ≡ left_width op w (own_width names.now.nets (expr_tree names.now.words (numbered a.entry))) (own_width names.now.nets (expr_tree names.now.words (numbered b.entry))) }
+    ensures right { result.1 ≡ right_width op w (own_width names.now.nets (expr_tree names.now.words (numbered a.entry))) (own_width names.now.nets (expr_tree names.now.words (numbered b.entry))) }
+    ensures left_within { own_width names.now.nets (expr_tree names.now.words (numbered a.entry)) ≤ result.0 }
+    ensures right_within { own_width names.now.nets (expr_tree names.now.words (numbered b.entry)) ≤ result.1 }
     ensures left_low { 1 ≤ result.0 }
     ensures right_low { 1 ≤ result.1 }
     ensures left_high { result.0 ≤ 64 }

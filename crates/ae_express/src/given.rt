@@ -2,6 +2,7 @@
 
 ghost use Rattle.std.specs.Prelude.{◌≡◌, ◌≤◌, ◌+◌, ◌*◌, ℕ, List, length, max, IfOk, OnOk};
 ghost use Rattle.ae_netlist.specs.Circuit.{IsNet};
+ghost use Rattle.ae_vread.specs.Roots.{numbered};
 ghost use Rattle.ae_vread.specs.View.{expr_tree};
 ghost use Rattle.ae_judge.specs.Weight.{expr_weight};
 ghost use Rattle.ae_judge.specs.Widths.{own_width};
@@ -26,18 +27,18 @@ fn lower_at_least(
     names: &Names<'_>,
     nets: &[Option<NetId>],
     least: u32,
-    e: &Expr,
+    e: Expr<'_>,
 ) -> Result<(NetId, u32), AllocError>
     requires from { from ≤ length nl.old.cells }
-    requires nets { AreNets names.now nets.now nl.old.cells }
-    requires sound { IsSound names.now (expr_tree e.now) }
-    requires ready { IsReadyFor names.now nets.now (expr_tree e.now) }
+    requires nets { AreNets names.now.nets nets.now nl.old.cells }
+    requires sound { IsSound names.now.nets (expr_tree names.now.words (numbered e)) }
+    requires ready { IsReadyFor names.now.nets nets.now (expr_tree names.now.words (numbered e)) }
     requires low { 1 ≤ least }
     requires high { least ≤ 64 }
-    requires room { HasRoom nl.old (8 * expr_weight (expr_tree e.now) + 1) }
-    ensures width { IfOk result (λ r. r.1 ≡ max (own_width names.now (expr_tree e.now)) least) }
+    requires room { HasRoom nl.old (8 * expr_weight (expr_tree names.now.words (numbered e)) + 1) }
+    ensures width { IfOk result (λ r. r.1 ≡ max (own_width names.now.nets (expr_tree names.now.words (numbered e.entry))) least) }
     ensures high { IfOk result (λ r. r.1 ≤ 64) }
-    ensures lowered { IfOk result (λ r. IsLowered from names.now nets.now nl.old nl.new (8 * expr_weight (expr_tree e.now) + 1) r.0.0 r.1 (expr_tree e.now)) }
+    ensures lowered { IfOk result (λ r. IsLowered from names.now.nets nets.now nl.old nl.new (8 * expr_weight (expr_tree names.now.words (numbered e.entry)) + 1) r.0.0 r.1 (expr_tree names.now.words (numbered e.entry))) }
 {
     let mut widths = Vec::new(names.alloc());
     let own = measure(names, e, &mut widths)?;
@@ -52,17 +53,17 @@ pub fn own_word(
     from: u32,
     names: &Names<'_>,
     nets: &[Option<NetId>],
-    e: &Expr,
+    e: Expr<'_>,
 ) -> Result<(NetId, u32), AllocError>
     requires from { from ≤ length nl.old.cells }
-    requires nets { AreNets names.now nets.now nl.old.cells }
-    requires sound { IsSound names.now (expr_tree e.now) }
-    requires ready { IsReadyFor names.now nets.now (expr_tree e.now) }
-    requires room { HasRoom nl.old (8 * expr_weight (expr_tree e.now) + 1) }
-    ensures own { IfOk result (λ r. r.1 ≡ own_width names.now (expr_tree e.now)) }
+    requires nets { AreNets names.now.nets nets.now nl.old.cells }
+    requires sound { IsSound names.now.nets (expr_tree names.now.words (numbered e)) }
+    requires ready { IsReadyFor names.now.nets nets.now (expr_tree names.now.words (numbered e)) }
+    requires room { HasRoom nl.old (8 * expr_weight (expr_tree names.now.words (numbered e)) + 1) }
+    ensures own { IfOk result (λ r. r.1 ≡ own_width names.now.nets (expr_tree names.now.words (numbered e.entry))) }
     ensures low { IfOk result (λ r. 1 ≤ r.1) }
     ensures high { IfOk result (λ r. r.1 ≤ 64) }
-    ensures lowered { IfOk result (λ r. IsLowered from names.now nets.now nl.old nl.new (8 * expr_weight (expr_tree e.now) + 1) r.0.0 r.1 (expr_tree e.now)) }
+    ensures lowered { IfOk result (λ r. IsLowered from names.now.nets nets.now nl.old nl.new (8 * expr_weight (expr_tree names.now.words (numbered e.entry)) + 1) r.0.0 r.1 (expr_tree names.now.words (numbered e.entry))) }
 {
     lower_at_least(nl, from, names, nets, 1, e)
 }
@@ -75,20 +76,20 @@ pub fn given_word(
     names: &Names<'_>,
     nets: &[Option<NetId>],
     width: u32,
-    e: &Expr,
+    e: Expr<'_>,
 ) -> Result<NetId, AllocError>
     requires from { from ≤ length nl.old.cells }
-    requires nets { AreNets names.now nets.now nl.old.cells }
-    requires sound { IsSound names.now (expr_tree e.now) }
-    requires ready { IsReadyFor names.now nets.now (expr_tree e.now) }
+    requires nets { AreNets names.now.nets nets.now nl.old.cells }
+    requires sound { IsSound names.now.nets (expr_tree names.now.words (numbered e)) }
+    requires ready { IsReadyFor names.now.nets nets.now (expr_tree names.now.words (numbered e)) }
     requires low { 1 ≤ width }
     requires high { width ≤ 64 }
-    requires room { HasRoom nl.old (8 * expr_weight (expr_tree e.now) + 2) }
+    requires room { HasRoom nl.old (8 * expr_weight (expr_tree names.now.words (numbered e)) + 2) }
     ensures grows { OnOk result (GrowsByGates nl.old nl.new) }
     ensures more { OnOk result (length nl.old.cells ≤ length nl.new.cells) }
-    ensures few { OnOk result (length nl.new.cells ≤ length nl.old.cells + 8 * expr_weight (expr_tree e.now) + 2) }
+    ensures few { OnOk result (length nl.new.cells ≤ length nl.old.cells + 8 * expr_weight (expr_tree names.now.words (numbered e.entry)) + 2) }
     ensures net { IfOk result (λ y. IsNet nl.new.cells y.0 width) }
-    ensures word { IfOk result (λ y. (at : List ℕ → ℕ) → AreNamed names.now nets.now at → IsWord from nl.new.cells y.0 width (λ run t. fitted names.now (read at run t) width (expr_tree e.now))) }
+    ensures word { IfOk result (λ y. (at : List ℕ → ℕ) → AreNamed names.now.nets nets.now at → IsWord from nl.new.cells y.0 width (λ run t. fitted names.now.nets (read at run t) width (expr_tree names.now.words (numbered e.entry)))) }
 {
     let (x, wide) = lower_at_least(nl, from, names, nets, width, e)?;
     let y = fit(nl, from, x, wide, width)?;

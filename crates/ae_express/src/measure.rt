@@ -1,8 +1,8 @@
 // The widths that expressions have by themselves, and those of the parts of their concatenations.
 
-ghost use Rattle.std.specs.Prelude.{◌≡◌, ◌≤◌, ◌++◌, ◌∷◌, [], length, map, IfOk, OnOk};
+ghost use Rattle.std.specs.Prelude.{◌≡◌, ◌≤◌, ◌++◌, ◌∷◌, [], length, IfOk, OnOk};
+ghost use Rattle.ae_vread.specs.Roots.{numbered};
 ghost use Rattle.ae_vread.specs.View.{expr_tree};
-ghost use Rattle.ae_vread.specs.Reading.{concat_of};
 ghost use Rattle.ae_judge.specs.Widths.{binary_width, own_width, unary_width};
 ghost use Rattle.ae_order.specs.Sound.{IsSound};
 ghost use Rattle.ae_express.specs.Asked.{part_widths};
@@ -11,7 +11,7 @@ use crate::forms::{Form, form_of};
 use crate::own::{index_width, name_width};
 use ae_judge::Names;
 use ae_order::place_number;
-use ae_vread::{BinOp, Expr, UnOp};
+use ae_vread::{BinOp, Expr, Root, UnOp};
 use std::alloc::AllocError;
 
 /// The width of a prefix whose operand has this.
@@ -39,62 +39,50 @@ fn binary_width(op: BinOp, a: u32, b: u32) -> u32
 /// The width that an expression has by itself. Puts that of each part of a concatenation in it behind `widths`, each once,
 /// however deep the concatenations are in one another; the one that is asked for first comes last.
 #[cycle(measuring)]
-pub fn measure(names: &Names<'_>, e: &Expr, widths: &mut Vec<u32>) -> Result<u32, AllocError>
-    requires sound { IsSound names.now (expr_tree e.now) }
-    ensures own { IfOk result (λ w. w ≡ own_width names.now (expr_tree e.now)) }
-    ensures widths { OnOk result (widths.new.items ≡ widths.old.items ++ part_widths names.now (expr_tree e.now)) }
+pub fn measure(names: &Names<'_>, e: Expr<'_>, widths: &mut Vec<u32>) -> Result<u32, AllocError>
+    requires sound { IsSound names.now.nets (expr_tree names.now.words (numbered e)) }
+    ensures own { IfOk result (λ w. w ≡ own_width names.now.nets (expr_tree names.now.words (numbered e.entry))) }
+    ensures widths { OnOk result (widths.new.items ≡ widths.old.items ++ part_widths names.now.nets (expr_tree names.now.words (numbered e.entry))) }
 {
-    match e {
-        Expr::Name(name) => Ok(name_width(names, name)),
-        Expr::Const { size, .. } => Ok(*size),
-        Expr::Place(_) => unreachable!(),
-        Expr::Part { high, low, .. } => Ok(*high - *low + 1),
-        Expr::Index { name, at } => match place_number(at) {
+    match e.root() {
+        Root::Name(name) => Ok(name_width(names, name)),
+        Root::Const { size, .. } => Ok(u32::from(size)),
+        Root::Place(_) => unreachable!(),
+        Root::Part { high, low, .. } => Ok(high - low + 1),
+        Root::Index { name, at } => match place_number(at) {
             Some(_) => Ok(index_width(names, name)),
             None => {
                 let _at = measure(names, at, widths)?;
                 Ok(index_width(names, name))
             }
         },
-        Expr::Unary(op, a) => {
+        Root::Unary(op, a) => {
             let own = measure(names, a, widths)?;
-            Ok(unary_width(*op, own))
+            Ok(unary_width(op, own))
         }
-        Expr::Binary(op, a, b) => {
+        Root::Binary(op, a, b) => {
             let right = measure(names, b, widths)?;
             let left = measure(names, a, widths)?;
-            Ok(binary_width(*op, left, right))
+            Ok(binary_width(op, left, right))
         }
-        Expr::Choose(test, a, b) => {
+        Root::Choose(test, a, b) => {
             let right = measure(names, b, widths)?;
             let left = measure(names, a, widths)?;
             let _test = measure(names, test, widths)?;
             Ok(left.max(right))
         }
-        Expr::Concat(parts) => measure_parts(names, parts, widths),
+        Root::One(a) => {
+            let own = measure(names, a, widths)?;
+            widths.push(own)?;
+            Ok(own)
+        }
+        Root::More(a, rest) => {
+            let others = measure(names, rest, widths)?;
+            let own = measure(names, a, widths)?;
+            widths.push(own)?;
+            Ok(own + others)
+        }
     }
-}
-
-/// The sum of the widths of the parts of a concatenation, each of which is put behind those inside the part: from the last
-/// part to the first.
-#[cycle(measuring)]
-fn measure_parts(
-    names: &Names<'_>,
-    parts: &[Expr],
-    widths: &mut Vec<u32>,
-) -> Result<u32, AllocError>
-    requires sound { IsSound names.now (concat_of (map expr_tree parts.now)) }
-    ensures own { IfOk result (λ w. w ≡ own_width names.now (concat_of (map expr_tree parts.now))) }
-    ensures widths { OnOk result (widths.new.items ≡ widths.old.items ++ part_widths names.now (concat_of (map expr_tree parts.now))) }
-{
-    let mut total = 0;
-    for turn in 0..parts.len() {
-        let part = &parts[parts.len() - 1 - turn];
-        let own = measure(names, part, widths)?;
-        widths.push(own)?;
-        total += own;
-    }
-    Ok(total)
 }
 
 /// Takes the last of some widths.

@@ -1,8 +1,8 @@
 // The widths that expressions have by themselves.
 
-ghost use Rattle.std.specs.Prelude.{◌≡◌, ◌≤◌, if◌then◌else◌, map};
-ghost use Rattle.ae_vread.specs.View.{expr_tree};
-ghost use Rattle.ae_vread.specs.Reading.{concat_of};
+ghost use Rattle.std.specs.Prelude.{◌≡◌, ◌≤◌, if◌then◌else◌};
+ghost use Rattle.ae_vread.specs.Roots.{numbered};
+ghost use Rattle.ae_vread.specs.View.{expr_tree, word_at};
 ghost use Rattle.ae_judge.specs.Names.{is_memory_name};
 ghost use Rattle.ae_judge.specs.Widths.{own_width, declared_width};
 ghost use Rattle.ae_runs.specs.Named.{IsNamed};
@@ -10,12 +10,12 @@ ghost use Rattle.ae_order.specs.Sound.{IsSound};
 
 use crate::forms::{Form, form_of};
 use ae_judge::Names;
-use ae_vread::{Expr, UnOp};
+use ae_vread::{Expr, Root, UnOp};
 
 /// The width of a name.
-pub fn name_width(names: &Names<'_>, name: &str) -> u32
-    requires named { IsNamed names.now name.now }
-    ensures width { result ≡ declared_width names.now name.now }
+pub fn name_width(names: &Names<'_>, name: u32) -> u32
+    requires named { IsNamed names.now.nets (word_at names.now.words name) }
+    ensures width { result ≡ declared_width names.now.nets (word_at names.now.words name) }
     ensures low { 1 ≤ result }
     ensures high { result ≤ 64 }
 {
@@ -23,9 +23,9 @@ pub fn name_width(names: &Names<'_>, name: &str) -> u32
 }
 
 /// The width of one bit or one word of a name.
-pub fn index_width(names: &Names<'_>, name: &str) -> u32
-    requires named { IsNamed names.now name.now }
-    ensures width { result ≡ (if is_memory_name names.now name.now then declared_width names.now name.now else 1) }
+pub fn index_width(names: &Names<'_>, name: u32) -> u32
+    requires named { IsNamed names.now.nets (word_at names.now.words name) }
+    ensures width { result ≡ (if is_memory_name names.now.nets (word_at names.now.words name) then declared_width names.now.nets (word_at names.now.words name) else 1) }
     ensures low { 1 ≤ result }
     ensures high { result ≤ 64 }
 {
@@ -37,42 +37,28 @@ pub fn index_width(names: &Names<'_>, name: &str) -> u32
 
 /// The width that an expression has by itself.
 #[cycle(widths)]
-pub fn own_width(names: &Names<'_>, e: &Expr) -> u32
-    requires sound { IsSound names.now (expr_tree e.now) }
-    ensures own { result ≡ own_width names.now (expr_tree e.now) }
+pub fn own_width(names: &Names<'_>, e: Expr<'_>) -> u32
+    requires sound { IsSound names.now.nets (expr_tree names.now.words (numbered e)) }
+    ensures own { result ≡ own_width names.now.nets (expr_tree names.now.words (numbered e.entry)) }
     ensures low { 1 ≤ result }
     ensures high { result ≤ 64 }
 {
-    match e {
-        Expr::Name(name) => name_width(names, name),
-        Expr::Const { size, .. } => *size,
-        Expr::Place(_) => unreachable!(),
-        Expr::Part { high, low, .. } => *high - *low + 1,
-        Expr::Index { name, .. } => index_width(names, name),
-        Expr::Unary(UnOp::Not, _) => 1,
-        Expr::Unary(UnOp::Flip, a) => own_width(names, a),
-        Expr::Binary(op, a, b) => match form_of(*op) {
+    match e.root() {
+        Root::Name(name) => name_width(names, name),
+        Root::Const { size, .. } => u32::from(size),
+        Root::Place(_) => unreachable!(),
+        Root::Part { high, low, .. } => high - low + 1,
+        Root::Index { name, .. } => index_width(names, name),
+        Root::Unary(UnOp::Not, _) => 1,
+        Root::Unary(UnOp::Flip, a) => own_width(names, a),
+        Root::Binary(op, a, b) => match form_of(op) {
             Form::Word(_) => own_width(names, a).max(own_width(names, b)),
             Form::Shift(_) => own_width(names, a),
             Form::Comparison(_) => 1,
             Form::Test(_) => 1,
         },
-        Expr::Choose(_, a, b) => own_width(names, a).max(own_width(names, b)),
-        Expr::Concat(parts) => total_width(names, parts),
+        Root::Choose(_, a, b) => own_width(names, a).max(own_width(names, b)),
+        Root::One(a) => own_width(names, a),
+        Root::More(a, rest) => own_width(names, a) + own_width(names, rest),
     }
-}
-
-/// The sum of the widths of the parts of a concatenation.
-#[cycle(widths)]
-fn total_width(names: &Names<'_>, parts: &[Expr]) -> u32
-    requires sound { IsSound names.now (concat_of (map expr_tree parts.now)) }
-    ensures own { result ≡ own_width names.now (concat_of (map expr_tree parts.now)) }
-    ensures low { 1 ≤ result }
-    ensures high { result ≤ 64 }
-{
-    let mut total = 0;
-    for part in parts {
-        total += own_width(names, part);
-    }
-    total
 }

@@ -10,6 +10,7 @@ ghost use Rattle.ae_runs.specs.Values.{value_at};
 ghost use Rattle.ae_gates.specs.Cells.{GrowsByGates, HasRoom, IsWord};
 ghost use Rattle.ae_runs.specs.Named.{AreNamed, AreNets, IsNamed, IsReady, place_of, read};
 ghost use Rattle.ae_order.specs.Sound.{IsWordName, places_of};
+ghost use Rattle.ae_vread.specs.View.{word_at};
 
 use crate::own::name_width;
 use ae_gates::{cut, widen};
@@ -20,10 +21,10 @@ use ae_word::Width;
 use std::alloc::AllocError;
 
 /// The net of a name that has one.
-pub fn net_of(names: &Names<'_>, nets: &[Option<NetId>], name: &str) -> NetId
-    requires named { IsNamed names.now name.now }
-    requires ready { IsReady names.now nets.now name.now }
-    ensures { slice_get nets.now (place_of names.now name.now) ≡ Some (Some result) }
+pub fn net_of(names: &Names<'_>, nets: &[Option<NetId>], name: u32) -> NetId
+    requires named { IsNamed names.now.nets (word_at names.now.words name) }
+    requires ready { IsReady names.now.nets nets.now (word_at names.now.words name) }
+    ensures { slice_get nets.now (place_of names.now.nets (word_at names.now.words name)) ≡ Some (Some result) }
 {
     match nets[place_of(names, name)] {
         Some(net) => net,
@@ -38,20 +39,20 @@ pub fn read_name(
     names: &Names<'_>,
     nets: &[Option<NetId>],
     w: u32,
-    name: &str,
+    name: u32,
 ) -> Result<NetId, AllocError>
     requires from { from ≤ length nl.old.cells }
-    requires nets { AreNets names.now nets.now nl.old.cells }
-    requires named { IsWordName names.now name.now }
-    requires ready { IsReady names.now nets.now name.now }
+    requires nets { AreNets names.now.nets nets.now nl.old.cells }
+    requires named { IsWordName names.now.nets (word_at names.now.words name) }
+    requires ready { IsReady names.now.nets nets.now (word_at names.now.words name) }
     requires high { w ≤ 64 }
-    requires within { declared_width names.now name.now ≤ w }
+    requires within { declared_width names.now.nets (word_at names.now.words name) ≤ w }
     requires room { HasRoom nl.old 1 }
     ensures grows { OnOk result (GrowsByGates nl.old nl.new) }
     ensures more { OnOk result (length nl.old.cells ≤ length nl.new.cells) }
     ensures few { OnOk result (length nl.new.cells ≤ length nl.old.cells + 1) }
     ensures net { IfOk result (λ y. IsNet nl.new.cells y.0 w) }
-    ensures word { IfOk result (λ y. (at : List ℕ → ℕ) → AreNamed names.now nets.now at → IsWord from nl.new.cells y.0 w (λ run t. value_at names.now (read at run t) w (name_tree name.now))) }
+    ensures word { IfOk result (λ y. (at : List ℕ → ℕ) → AreNamed names.now.nets nets.now at → IsWord from nl.new.cells y.0 w (λ run t. value_at names.now.nets (read at run t) w (name_tree (word_at names.now.words name)))) }
 {
     let net = net_of(names, nets, name);
     let width = name_width(names, name);
@@ -66,16 +67,16 @@ pub fn read_part(
     names: &Names<'_>,
     nets: &[Option<NetId>],
     w: u32,
-    name: &str,
+    name: u32,
     high: u32,
     low: u32,
 ) -> Result<NetId, AllocError>
     requires from { from ≤ length nl.old.cells }
-    requires nets { AreNets names.now nets.now nl.old.cells }
-    requires named { IsWordName names.now name.now }
-    requires ready { IsReady names.now nets.now name.now }
+    requires nets { AreNets names.now.nets nets.now nl.old.cells }
+    requires named { IsWordName names.now.nets (word_at names.now.words name) }
+    requires ready { IsReady names.now.nets nets.now (word_at names.now.words name) }
     requires order { low ≤ high }
-    requires inside { high < declared_width names.now name.now }
+    requires inside { high < declared_width names.now.nets (word_at names.now.words name) }
     requires most { w ≤ 64 }
     requires within { high - low + 1 ≤ w }
     requires room { HasRoom nl.old 3 }
@@ -83,7 +84,7 @@ pub fn read_part(
     ensures more { OnOk result (length nl.old.cells ≤ length nl.new.cells) }
     ensures few { OnOk result (length nl.new.cells ≤ length nl.old.cells + 3) }
     ensures net { IfOk result (λ y. IsNet nl.new.cells y.0 w) }
-    ensures word { IfOk result (λ y. (at : List ℕ → ℕ) → AreNamed names.now nets.now at → IsWord from nl.new.cells y.0 w (λ run t. value_at names.now (read at run t) w (part_tree name.now high low))) }
+    ensures word { IfOk result (λ y. (at : List ℕ → ℕ) → AreNamed names.now.nets nets.now at → IsWord from nl.new.cells y.0 w (λ run t. value_at names.now.nets (read at run t) w (part_tree (word_at names.now.words name) high low))) }
 {
     let net = net_of(names, nets, name);
     let width = name_width(names, name);
@@ -140,22 +141,22 @@ pub fn read_place(
     names: &Names<'_>,
     nets: &[Option<NetId>],
     w: u32,
-    name: &str,
+    name: u32,
     k: u32,
 ) -> Result<NetId, AllocError>
     requires from { from ≤ length nl.old.cells }
-    requires nets { AreNets names.now nets.now nl.old.cells }
-    requires named { IsNamed names.now name.now }
-    requires ready { IsReady names.now nets.now name.now }
-    requires inside { k < places_of names.now name.now }
+    requires nets { AreNets names.now.nets nets.now nl.old.cells }
+    requires named { IsNamed names.now.nets (word_at names.now.words name) }
+    requires ready { IsReady names.now.nets nets.now (word_at names.now.words name) }
+    requires inside { k < places_of names.now.nets (word_at names.now.words name) }
     requires high { w ≤ 64 }
-    requires within { (if is_memory_name names.now name.now then declared_width names.now name.now else 1) ≤ w }
+    requires within { (if is_memory_name names.now.nets (word_at names.now.words name) then declared_width names.now.nets (word_at names.now.words name) else 1) ≤ w }
     requires room { HasRoom nl.old 3 }
     ensures grows { OnOk result (GrowsByGates nl.old nl.new) }
     ensures more { OnOk result (length nl.old.cells ≤ length nl.new.cells) }
     ensures few { OnOk result (length nl.new.cells ≤ length nl.old.cells + 3) }
     ensures net { IfOk result (λ y. IsNet nl.new.cells y.0 w) }
-    ensures word { IfOk result (λ y. (at : List ℕ → ℕ) → AreNamed names.now nets.now at → IsWord from nl.new.cells y.0 w (λ run t. value_at names.now (read at run t) w (index_tree name.now (place_tree k)))) }
+    ensures word { IfOk result (λ y. (at : List ℕ → ℕ) → AreNamed names.now.nets nets.now at → IsWord from nl.new.cells y.0 w (λ run t. value_at names.now.nets (read at run t) w (index_tree (word_at names.now.words name) (place_tree k)))) }
 {
     let net = net_of(names, nets, name);
     let width = name_width(names, name);
@@ -176,25 +177,25 @@ pub fn read_word(
     names: &Names<'_>,
     nets: &[Option<NetId>],
     w: u32,
-    name: &str,
+    name: u32,
     at: NetId,
     own: u32,
 ) -> Result<NetId, AllocError>
     requires from { from ≤ length nl.old.cells }
-    requires nets { AreNets names.now nets.now nl.old.cells }
-    requires named { IsNamed names.now name.now }
-    requires ready { IsReady names.now nets.now name.now }
-    requires memory { is_memory_name names.now name.now ≡ true }
-    requires inside { 2 ^ own ≤ depth_of names.now name.now }
+    requires nets { AreNets names.now.nets nets.now nl.old.cells }
+    requires named { IsNamed names.now.nets (word_at names.now.words name) }
+    requires ready { IsReady names.now.nets nets.now (word_at names.now.words name) }
+    requires memory { is_memory_name names.now.nets (word_at names.now.words name) ≡ true }
+    requires inside { 2 ^ own ≤ depth_of names.now.nets (word_at names.now.words name) }
     requires at { IsNet nl.old.cells at.0 own }
     requires high { w ≤ 64 }
-    requires within { declared_width names.now name.now ≤ w }
+    requires within { declared_width names.now.nets (word_at names.now.words name) ≤ w }
     requires room { HasRoom nl.old 2 }
     ensures grows { OnOk result (GrowsByGates nl.old nl.new) }
     ensures more { OnOk result (length nl.old.cells ≤ length nl.new.cells) }
     ensures few { OnOk result (length nl.new.cells ≤ length nl.old.cells + 2) }
     ensures net { IfOk result (λ y. IsNet nl.new.cells y.0 w) }
-    ensures word { IfOk result (λ y. (at_of : List ℕ → ℕ) (f : List Clock → ℕ → ℕ) → AreNamed names.now nets.now at_of → IsWord from nl.old.cells at.0 own f → IsWord from nl.new.cells y.0 w (λ run t. get_or ((read at_of run t).store name.now) (f run t) 0)) }
+    ensures word { IfOk result (λ y. (at_of : List ℕ → ℕ) (f : List Clock → ℕ → ℕ) → AreNamed names.now.nets nets.now at_of → IsWord from nl.old.cells at.0 own f → IsWord from nl.new.cells y.0 w (λ run t. get_or ((read at_of run t).store (word_at names.now.words name)) (f run t) 0)) }
 {
     let net = net_of(names, nets, name);
     let width = name_width(names, name);

@@ -217,20 +217,20 @@ fn run_netlist(alloc: Global, nl: &Netlist, rest: &[u8], fill: u64) -> Result<Re
 }
 
 // The netlist of a module, which is not kept.
-fn netlist_of(alloc: Global, m: VModule) -> Result<Netlist, ElabFault>
+fn netlist_of(alloc: Global, m: VModule<'_>) -> Result<Netlist, ElabFault>
     requires spelled { (text : List ℕ) × (length text < 2 ^ 32) × Spells text (module_tree m) }
-    ensures well_formed { OnOk result (IsWellFormed (module_tree m)) }
-    ensures fault { IfErr result (λ f. IsFault (module_tree m) f) }
-    ensures runs { IfOk result (λ n. HasSameRuns (module_tree m) n) }
+    ensures well_formed { OnOk result (IsWellFormed (module_tree m.entry)) }
+    ensures fault { IfErr result (λ f. IsFault (module_tree m.entry) f) }
+    ensures runs { IfOk result (λ n. HasSameRuns (module_tree m.entry) n) }
 {
     elaborate(alloc, &m)
 }
 
 // The reply for a module that a text spells.
-fn run_module(alloc: Global, m: VModule, rest: &[u8], fill: u64) -> Result<Reply, OutOfMemory>
+fn run_module(alloc: Global, m: VModule<'_>, rest: &[u8], fill: u64) -> Result<Reply, OutOfMemory>
     requires spelled { (text : List ℕ) × (length text < 2 ^ 32) × Spells text (module_tree m) }
     requires rest { length rest.now < 2 ^ 32 }
-    ensures { IfOk result (λ reply. IsModuleReply fill (module_tree m) (rows rest.now) reply.status (string_bytes reply.text)) }
+    ensures { IfOk result (λ reply. IsModuleReply fill (module_tree m.entry) (rows rest.now) reply.status (string_bytes reply.text)) }
 {
     match netlist_of(alloc, m) {
         Ok(nl) => run_netlist(alloc, &nl, rest, fill),

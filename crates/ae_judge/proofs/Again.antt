@@ -1,12 +1,12 @@
 -- The first name that is declared again, net by net, and names of which none stands in a table.
 use Rattle.std.proofs.Common.{ℕ, ◌≡◌, ◌+◌, ◌<◌, ◌≤◌, Bool, true, false, not, ◌&&◌, ◌||◌, List, [], ◌∷◌, length, drop, get_or, map, Option, Some, None, if◌then◌else◌, refl, sym, ap, ◌∙◌, subst}
-use Rattle.std.specs.Prelude.{bytes_eq, min, string_bytes}
+use Rattle.std.specs.Prelude.{bytes_eq, min}
 use Rattle.std.specs.Option.{option_or}
 use Rattle.std.specs.List.{list_any}
 use Rattle.std.proofs.lemmas.Bool.{or_parts}
 use Rattle.std.proofs.lemmas.List.{drop_more, drop_all}
 use Rattle.ae_vread.specs.ModuleTree.{NetTree, ItemTree}
-use Rattle.ae_vread.specs.View.{net_tree}
+use Rattle.ae_vread.specs.View.{net_tree, word_at}
 use Rattle.ae_vread.specs.declared.module.VNet.{VNet}
 use Rattle.ae_judge.specs.Names.{is_input_name}
 use Rattle.ae_judge.specs.Faults.{may_repeat}
@@ -43,17 +43,18 @@ noted_put x rest es p None all h = by (has_place es x.name) h
     by true g = g
     by false g = again_same (with_place es x.name p) (with_place es x.name 0) rest (same_with es es x.name p 0 (λ n. refl)) ∙ g
 
-pub noted_next : (vs : List VNet) (es : List Entry) (i : ℕ) (d : VNet) (o all : Option ℕ) → i < length vs
-    → IsNoted (map net_tree (drop i vs)) es o all
-    → IsNoted (map net_tree (drop (i + 1) vs)) (with_place es (string_bytes (get_or vs i d).name) i)
-    (option_or o (if has_place es (string_bytes (get_or vs i d).name) then Some (get_or vs i d).item else None)) all
-noted_next vs es i d o all l h =
-    let here : IsNoted (net_tree (get_or vs i d) ∷ map net_tree (drop (i + 1) vs)) es o all =
-    subst (λ ys. IsNoted (map net_tree ys) es o all) (drop_more vs i d l) h in
-    noted_put (net_tree (get_or vs i d)) (map net_tree (drop (i + 1) vs)) es i o all here
+pub noted_next : (ws : List (List ℕ)) (vs : List VNet) (es : List Entry) (i : ℕ) (d : VNet) (o all : Option ℕ) → i < length vs
+    → IsNoted (map (net_tree ws) (drop i vs)) es o all
+    → IsNoted (map (net_tree ws) (drop (i + 1) vs)) (with_place es (word_at ws (get_or vs i d).name) i)
+    (option_or o (if has_place es (word_at ws (get_or vs i d).name) then Some (get_or vs i d).item else None)) all
+noted_next ws vs es i d o all l h =
+    let here : IsNoted (net_tree ws (get_or vs i d) ∷ map (net_tree ws) (drop (i + 1) vs)) es o all =
+    subst (λ ys. IsNoted (map (net_tree ws) ys) es o all) (drop_more vs i d l) h in
+    noted_put (net_tree ws (get_or vs i d)) (map (net_tree ws) (drop (i + 1) vs)) es i o all here
 
-pub noted_all : (vs : List VNet) (es : List Entry) (n : ℕ) (o all : Option ℕ) → length vs ≤ n → IsNoted (map net_tree (drop n vs)) es o all → o ≡ all
-noted_all vs es n o all l h = end o (subst (λ ys. IsNoted (map net_tree ys) es o all) (drop_all n vs l) h)
+pub noted_all : (ws : List (List ℕ)) (vs : List VNet) (es : List Entry) (n : ℕ) (o all : Option ℕ) → length vs ≤ n
+    → IsNoted (map (net_tree ws) (drop n vs)) es o all → o ≡ all
+noted_all ws vs es n o all l h = end o (subst (λ ys. IsNoted (map (net_tree ws) ys) es o all) (drop_all n vs l) h)
   where
     end : (o : Option ℕ) → IsNoted [] es o all → o ≡ all
     end None g = g

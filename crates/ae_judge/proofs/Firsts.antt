@@ -15,23 +15,24 @@ pub with_names_append : (es : List Entry) (xs ys : List (List ℕ)) → with_nam
 with_names_append es [] ys = refl
 with_names_append es (x ∷ xs) ys = with_names_append (with_place es x 0) xs ys
 
-pub driven_next : (items : List VItem) (i : ℕ) (d : VItem) (es next all : List Entry) → i < length items
-    → next ≡ with_names es (item_targets (item_tree (get_or items i d)))
-    → with_names es (flat_map item_targets (map item_tree (drop i items))) ≡ all
-    → with_names next (flat_map item_targets (map item_tree (drop (i + 1) items))) ≡ all
-driven_next items i d es next all l n h =
-    ap (λ fs. with_names fs (flat_map item_targets (map item_tree (drop (i + 1) items)))) n
-    ∙ sym (with_names_append es (item_targets (item_tree (get_or items i d))) (flat_map item_targets (map item_tree (drop (i + 1) items))))
-    ∙ sym (ap (λ is. with_names es (flat_map item_targets (map item_tree is))) (drop_more items i d l)) ∙ h
+pub driven_next : (ws : List (List ℕ)) (items : List VItem) (i : ℕ) (d : VItem) (es next all : List Entry) → i < length items
+    → next ≡ with_names es (item_targets (item_tree ws (get_or items i d)))
+    → with_names es (flat_map item_targets (map (item_tree ws) (drop i items))) ≡ all
+    → with_names next (flat_map item_targets (map (item_tree ws) (drop (i + 1) items))) ≡ all
+driven_next ws items i d es next all l n h =
+    ap (λ fs. with_names fs (flat_map item_targets (map (item_tree ws) (drop (i + 1) items)))) n
+    ∙ sym (with_names_append es (item_targets (item_tree ws (get_or items i d))) (flat_map item_targets (map (item_tree ws) (drop (i + 1) items))))
+    ∙ sym (ap (λ is. with_names es (flat_map item_targets (map (item_tree ws) is))) (drop_more items i d l)) ∙ h
 
-pub twice_next : (ns : List NetTree) (k : ℕ) (items : List VItem) (i : ℕ) (d : VItem) (es next : List Entry) (all : Option ℕ) → i < length items
-    → drives_twice ns es (item_tree (get_or items i d)) ≡ false → next ≡ with_names es (item_targets (item_tree (get_or items i d)))
-    → first_twice ns k es (map item_tree (drop i items)) ≡ all → first_twice ns (k + 1) next (map item_tree (drop (i + 1) items)) ≡ all
-twice_next ns k items i d es next all l once n h =
-    let rest = map item_tree (drop (i + 1) items) in
+pub twice_next : (ws : List (List ℕ)) (ns : List NetTree) (k : ℕ) (items : List VItem) (i : ℕ) (d : VItem) (es next : List Entry) (all : Option ℕ)
+    → i < length items
+    → drives_twice ns es (item_tree ws (get_or items i d)) ≡ false → next ≡ with_names es (item_targets (item_tree ws (get_or items i d)))
+    → first_twice ns k es (map (item_tree ws) (drop i items)) ≡ all → first_twice ns (k + 1) next (map (item_tree ws) (drop (i + 1) items)) ≡ all
+twice_next ws ns k items i d es next all l once n h =
+    let rest = map (item_tree ws) (drop (i + 1) items) in
     ap (λ fs. first_twice ns (k + 1) fs rest) n
-    ∙ sym (ap (λ b. if b then Some k else first_twice ns (k + 1) (with_names es (item_targets (item_tree (get_or items i d)))) rest) once)
-    ∙ sym (ap (λ is. first_twice ns k es (map item_tree is)) (drop_more items i d l)) ∙ h
+    ∙ sym (ap (λ b. if b then Some k else first_twice ns (k + 1) (with_names es (item_targets (item_tree ws (get_or items i d)))) rest) once)
+    ∙ sym (ap (λ is. first_twice ns k es (map (item_tree ws) is)) (drop_more items i d l)) ∙ h
 
 -- a name that is declared before needs no other to be known
 

@@ -1,15 +1,13 @@
 pub mod Members
+pub mod PlaceLemmas
+mod SeenLaws
+pub mod Again
+pub mod Loops
+pub mod Firsts
+pub mod Weighing
+pub mod Wide
 pub mod TokenShape
 pub mod Shapely
-pub mod PlaceLemmas
-pub mod Again
-pub mod Parts
-pub mod Misused
-pub mod Loops
-pub mod Wide
-pub mod Weighing
-pub mod Reading
-pub mod Firsts
 pub mod Scan
 pub mod Unknowns
 pub mod Doubled

@@ -1,7 +1,11 @@
 -- What a loop over a list has found so far.
-use Rattle.std.proofs.Common.{ℕ, zero, suc, ◌≡◌, ◌+◌, ◌<◌, ◌≤◌, Bool, true, false, ◌||◌, List, [], ◌∷◌, ◌++◌, length, take, get_or, map, refl, sym, ap, ◌∙◌, arith}
+use Rattle.std.proofs.Common.{ℕ, zero, suc, ◌≡◌, ◌+◌, ◌<◌, ◌≤◌, Bool, true, false, ◌||◌, List, [], ◌∷◌, ◌++◌, length, take, get_or, refl, sym, ap, ◌∙◌, arith}
 use Rattle.std.specs.List.{list_any, AllByRecursion}
 use Rattle.std.proofs.lemmas.List.{take_more, take_all}
+
+pub or_false : (a : Bool) → (a || false) ≡ a
+or_false true = refl
+or_false false = refl
 
 pub or_assoc : (a b c : Bool) → ((a || b) || c) ≡ (a || (b || c))
 or_assoc true b c = refl
@@ -33,12 +37,3 @@ module _ {X : Type 0} where
   all_at P [] i d l h = absurd (omega arith)
   all_at P (x ∷ xs) zero d l h = h.0
   all_at P (x ∷ xs) (suc i) d l h = all_at P xs i d (omega arith) h.1
-
-pub any_map : {X Y : Type 0} (test : Y → Bool) (f : X → Y) (xs : List X) → list_any test (map f xs) ≡ list_any (λ x. test (f x)) xs
-any_map test f [] = refl
-any_map test f (x ∷ xs) = ap (λ b. test (f x) || b) (any_map test f xs)
-
-pub all_map_at : {X Y : Type 0} (P : Y → Type 0) (f : X → Y) (xs : List X) (i : ℕ) (d : X) → i < length xs → AllByRecursion P (map f xs) → P (f (get_or xs i d))
-all_map_at P f [] i d l h = absurd (omega arith)
-all_map_at P f (x ∷ xs) zero d l h = h.0
-all_map_at P f (x ∷ xs) (suc i) d l h = all_map_at P f xs i d (omega arith) h.1

@@ -1,22 +1,22 @@
 -- Names with places, one by one.
-use Rattle.std.proofs.Common.{ℕ, zero, suc, ◌≡◌, ◌+◌, ◌<◌, Bool, true, false, ◌||◌, List, [], ◌∷◌, ◌++◌, length, Option, Some, None, is_some, if◌then◌else◌, refl, sym, ap, ◌∙◌, subst, inl, inr, arith, length-append, slice_get, map}
-use Rattle.std.specs.Prelude.{bytes_eq, find, option_and_then, take, string_bytes, unwrap_or, nat_eq}
+use Rattle.std.proofs.Common.{ℕ, zero, suc, ◌≡◌, ◌+◌, ◌<◌, ◌≤◌, Bool, true, false, ◌||◌, ◌⊎◌, List, [], ◌∷◌, ◌++◌, length, Option, Some, None, is_some, if◌then◌else◌, refl, sym, ap, ◌∙◌, subst, inl, inr, arith, slice_get, slice_set, replicate, map, drop}
+use Rattle.std.specs.Prelude.{IfSome, bytes_eq, find, option_and_then, option_map, take, unwrap_or, nat_eq}
 use Rattle.std.proofs.Common.{get_or}
-use Rattle.std.proofs.lemmas.List.{take_more, length-take, length-map, get_or-map}
-use Rattle.ae_vread.specs.View.{net_tree}
+use Rattle.std.proofs.lemmas.List.{drop_all, drop_more, take_more, length-take, length-map, get_or-map}
+use Rattle.std.proofs.lemmas.Option.{slice_get_within, get_or_from_slice_get}
+use Rattle.ae_vread.specs.View.{net_tree, word_at}
 use Rattle.ae_vread.specs.declared.module.VNet.{VNet}
 use Rattle.std.specs.List.{list_any}
 use Rattle.std.specs.Borrow.{Bor}
-use Rattle.std.proofs.lemmas.Bool.{cases_Bool, cond-false, both_ways}
+use Rattle.std.proofs.lemmas.Bool.{cases_Bool, cond-true, cond-false, both_ways}
 use Rattle.std.proofs.lemmas.Bool.Decides.{nat_tests}
 use Rattle.indexmap.specs.IndexMap.{insert_entry}
 use Rattle.std.specs.Map.{lookup}
 use Rattle.ae_vread.specs.ModuleTree.{NetTree}
 use Rattle.ae_judge.specs.Names.{net_named}
-use Rattle.ae_judge.specs.Places.{Entry, place_in, with_place, places_of, HasNames, Finds}
-use Rattle.ae_judge.proofs.Members.{same_bytes, bytes_same, other_bytes}
-use Rattle.ae_judge.proofs.Loops.{or_assoc}
-use Rattle.ae_judge.proofs.Misused.{or_false}
+use Rattle.ae_judge.specs.Places.{Entry, place_in, with_place, places_of, HasNames, place_named, Finds, AreNoted, ArePlaces}
+use Rattle.ae_judge.proofs.Members.{find_some, same_bytes, bytes_same, other_bytes}
+use Rattle.ae_judge.proofs.Loops.{or_false, or_assoc}
 
 abbrev or_else : {X : Type 0} → Option X → Option X → Option X
 or_else None o = o
@@ -84,20 +84,6 @@ names_more es ns m p h n =
 
 -- nets
 
-find_append : {X : Type 0} (test : X → Bool) (xs : List X) (x : X) → find test (xs ++ x ∷ []) ≡ or_else (find test xs) (if test x then Some x else None)
-find_append test [] x = refl
-find_append test (y ∷ xs) x =
-    ap (λ o. if test y then Some y else o) (find_append test xs x) ∙ if_append (test y) y (find test xs) (if test x then Some x else None)
-
-get_front : {X : Type 0} (xs : List X) (x y : X) (p : ℕ) → slice_get xs p ≡ Some y → slice_get (xs ++ x ∷ []) p ≡ Some y
-get_front [] x y p h = absurd (let e : None ≡ Some y = h in cc)
-get_front (z ∷ xs) x y zero h = h
-get_front (z ∷ xs) x y (suc p) h = get_front xs x y p h
-
-get_last : {X : Type 0} (xs : List X) (x : X) → slice_get (xs ++ x ∷ []) (length xs) ≡ Some x
-get_last [] x = refl
-get_last (z ∷ xs) x = get_last xs x
-
 pub get_within : {X : Type 0} (xs : List X) (p : ℕ) → p < length xs → (x : X) × (slice_get xs p ≡ Some x)
 get_within [] p h = absurd (omega arith)
 get_within (x ∷ xs) zero h = (x, refl)
@@ -109,47 +95,90 @@ bytes_turned xs ys = elim (cases_Bool (bytes_eq ys xs)) [
   | inr h ↦ other_bytes xs ys (λ e. both_ways _ h (bytes_same ys xs (sym e))) ∙ sym h
 ]
 
-pub finds_more : (ns : List NetTree) (es : List Entry) (x : NetTree) → Finds ns es → Finds (ns ++ x ∷ []) (with_place es x.name (length ns))
-unfolding net_named
-finds_more ns es x h = (λ n. net n (place_in es n) refl, λ n p e. small n p (place_in es n) refl (sym (place_with es x.name (length ns) n) ∙ e))
-  where
-    net : (n : List ℕ) (o : Option ℕ) → place_in es n ≡ o
-        → option_and_then (slice_get (ns ++ x ∷ [])) (place_in (with_place es x.name (length ns)) n) ≡ net_named (ns ++ x ∷ []) n
-    net n None e =
-        let none : net_named ns n ≡ None = sym (h.0 n) ∙ ap (option_and_then (slice_get ns)) e in
-        ap (option_and_then (slice_get (ns ++ x ∷ []))) (place_with es x.name (length ns) n ∙
-        ap (λ o. or_else o (if bytes_eq n x.name then Some (length ns) else None)) e)
-        ∙ here (bytes_eq n x.name)
-        ∙ ap (λ b. if b then Some x else None) (bytes_turned n x.name)
-        ∙ sym (find_append (λ (y : NetTree). bytes_eq y.name n) ns x ∙ ap (λ o. or_else o (if bytes_eq x.name n then Some x else None)) none)
-      where
-        here : (b : Bool) → option_and_then (slice_get (ns ++ x ∷ [])) (if b then Some (length ns) else None) ≡ (if b then Some x else None)
-        here true = get_last ns x
-        here false = refl
-    net n (Some p) e =
-        let y = get_within ns p (h.1 n p e) in
-        let found : net_named ns n ≡ Some y.0 = sym (h.0 n) ∙ ap (option_and_then (slice_get ns)) e ∙ y.1 in
-        ap (option_and_then (slice_get (ns ++ x ∷ []))) (place_with es x.name (length ns) n ∙
-        ap (λ o. or_else o (if bytes_eq n x.name then Some (length ns) else None)) e)
-        ∙ get_front ns x y.0 p y.1
-        ∙ sym (find_append (λ (y : NetTree). bytes_eq y.name n) ns x ∙ ap (λ o. or_else o (if bytes_eq x.name n then Some x else None)) found)
+map_or : {X Y : Type 0} (f : X → Y) (a b : Option X) → option_map f (or_else a b) ≡ or_else (option_map f a) (option_map f b)
+map_or f None b = refl
+map_or f (Some x) b = refl
 
-    small : (n : List ℕ) (p : ℕ) (o : Option ℕ) → place_in es n ≡ o → or_else (place_in es n) (if bytes_eq n x.name then Some (length ns) else None) ≡ Some p
-        → p < length (ns ++ x ∷ [])
-    small n p None e f = last (bytes_eq n x.name) (sym (ap (λ o. or_else o (if bytes_eq n x.name then Some (length ns) else None)) e) ∙ f)
-      where
-        last : (b : Bool) → (if b then Some (length ns) else None) ≡ Some p → p < length (ns ++ x ∷ [])
-        last true g = let s : length ns ≡ p = cc in omega (arith, length-append ns (x ∷ []))
-        last false g = absurd (let s : None ≡ Some p = g in cc)
-    small n p (Some q) e f =
-        let g : Some q ≡ Some p = sym (ap (λ o. or_else o (if bytes_eq n x.name then Some (length ns) else None)) e) ∙ f in
-        let s : q ≡ p = cc in
-        let l = h.1 n q e in
-        omega (arith, length-append ns (x ∷ []))
+map_if : {X Y : Type 0} (f : X → Y) (b : Bool) (x : X) → option_map f (if b then Some x else None) ≡ (if b then Some (f x) else None)
+map_if f true x = refl
+map_if f false x = refl
+
+named_append : (xs : List NetTree) (x : NetTree) (n : List ℕ)
+    → place_named (xs ++ x ∷ []) n ≡ or_else (place_named xs n) (if bytes_eq x.name n then Some (length xs) else None)
+named_append [] x n = refl
+named_append (y ∷ ys) x n = by (named_append ys x n) (bytes_eq y.name n)
+  where
+    by : place_named (ys ++ x ∷ []) n ≡ or_else (place_named ys n) (if bytes_eq x.name n then Some (length ys) else None) → (b : Bool)
+        → (if b then Some 0 else option_map suc (place_named (ys ++ x ∷ []) n))
+        ≡ or_else (if b then Some 0 else option_map suc (place_named ys n)) (if bytes_eq x.name n then Some (suc (length ys)) else None)
+    by rest true = refl
+    by rest false =
+        ap (option_map suc) rest
+        ∙ map_or suc (place_named ys n) (if bytes_eq x.name n then Some (length ys) else None)
+        ∙ ap (or_else (option_map suc (place_named ys n))) (map_if suc (bytes_eq x.name n) (length ys))
+
+pub finds_more : (ns : List NetTree) (es : List Entry) (x : NetTree) → Finds ns es → Finds (ns ++ x ∷ []) (with_place es x.name (length ns))
+finds_more ns es x h n =
+    place_with es x.name (length ns) n
+    ∙ ap (λ o. or_else o (if bytes_eq n x.name then Some (length ns) else None)) (h n)
+    ∙ ap (λ b. or_else (place_named ns n) (if b then Some (length ns) else None)) (bytes_turned n x.name)
+    ∙ sym (named_append ns x n)
 
 pub finds_none : Finds [] []
+finds_none = λ n. refl
+
+-- the net at the place of a name
+pub place_at : (ns : List NetTree) (n : List ℕ) (p : ℕ) → place_named ns n ≡ Some p → (x : NetTree) × (slice_get ns p ≡ Some x) × (bytes_eq x.name n ≡ true)
+place_at [] n p e = absurd (let s : None ≡ Some p = e in cc)
+place_at (x ∷ xs) n p e = elim (cases_Bool (bytes_eq x.name n)) [
+  | inl h ↦
+      let s : 0 ≡ p = (let t : Some 0 ≡ Some p = sym (cond-true _ (Some 0) (option_map suc (place_named xs n)) h) ∙ e in cc) in
+      (x, ap (slice_get (x ∷ xs)) (sym s), h)
+  | inr h ↦ behind (place_at xs n) (place_named xs n) refl (sym (cond-false _ (Some 0) (option_map suc (place_named xs n)) h) ∙ e)
+]
+  where
+    behind : ((q : ℕ) → place_named xs n ≡ Some q → (y : NetTree) × (slice_get xs q ≡ Some y) × (bytes_eq y.name n ≡ true)) → (o : Option ℕ)
+        → place_named xs n ≡ o → option_map suc o ≡ Some p → (y : NetTree) × (slice_get (x ∷ xs) p ≡ Some y) × (bytes_eq y.name n ≡ true)
+    behind rest None i f = absurd (let s : None ≡ Some p = f in cc)
+    behind rest (Some q) i f =
+        let s : suc q ≡ p = (let t : Some (suc q) ≡ Some p = f in cc) in
+        let r = rest q i in
+        (r.0, ap (slice_get (x ∷ xs)) (sym s) ∙ r.1, r.2)
+
+pub place_net : (ns : List NetTree) (n : List ℕ) → option_and_then (slice_get ns) (place_named ns n) ≡ net_named ns n
 unfolding net_named
-finds_none = (λ n. refl, λ n p e. absurd (let s : None ≡ Some p = e in cc))
+place_net [] n = refl
+place_net (x ∷ xs) n = by (place_net xs n) (bytes_eq x.name n)
+  where
+    skip : (o : Option ℕ) → option_and_then (slice_get (x ∷ xs)) (option_map suc o) ≡ option_and_then (slice_get xs) o
+    skip None = refl
+    skip (Some p) = refl
+
+    by : option_and_then (slice_get xs) (place_named xs n) ≡ find (λ (y : NetTree). bytes_eq y.name n) xs → (b : Bool)
+        → option_and_then (slice_get (x ∷ xs)) (if b then Some 0 else option_map suc (place_named xs n))
+        ≡ (if b then Some x else find (λ (y : NetTree). bytes_eq y.name n) xs)
+    by rest true = refl
+    by rest false = skip (place_named xs n) ∙ rest
+
+within_get : {X : Type 0} (xs : List X) (p : ℕ) (x : X) → slice_get xs p ≡ Some x → p < length xs
+within_get [] p x e = absurd (let s : None ≡ Some x = e in cc)
+within_get (y ∷ ys) zero x e = omega arith
+within_get (y ∷ ys) (suc p) x e = let l = within_get ys p x e in omega arith
+
+pub place_within : (ns : List NetTree) (n : List ℕ) → IfSome (place_named ns n) (λ p. p < length ns)
+place_within ns n = by (place_named ns n) refl
+  where
+    by : (o : Option ℕ) → place_named ns n ≡ o → IfSome o (λ p. p < length ns)
+    by None e = tt
+    by (Some p) e = let r = place_at ns n p e in within_get ns p r.0 r.1
+
+-- names of one place are one
+pub place_same : (ns : List NetTree) (m n : List ℕ) (p : ℕ) → place_named ns m ≡ Some p → place_named ns n ≡ Some p → m ≡ n
+place_same ns m n p e f =
+    let a = place_at ns m p e in
+    let b = place_at ns n p f in
+    let s : a.0 ≡ b.0 = (let t : Some a.0 ≡ Some b.0 = sym a.1 ∙ b.1 in cc) in
+    sym (same_bytes a.0.name m a.2) ∙ ap (λ (x : NetTree). x.name) s ∙ same_bytes b.0.name n b.2
 
 -- the entries of the code
 
@@ -189,15 +218,104 @@ same_length true n = grind (arith, nat_tests)
 same_length false n = grind (arith, nat_tests)
 
 -- the next net of the code
-pub finds_next : (vs : List VNet) (es : List Entry) (i : ℕ) (d : VNet) → i < length vs → Finds (take i (map net_tree vs)) es
-    → Finds (take (i + 1) (map net_tree vs)) (with_place es (string_bytes (get_or vs i d).name) i)
-finds_next vs es i d l h =
-    let xs : List NetTree = map net_tree vs in
+pub finds_next : (ws : List (List ℕ)) (vs : List VNet) (es : List Entry) (i : ℕ) (d : VNet) → i < length vs → Finds (take i (map (net_tree ws) vs)) es
+    → Finds (take (i + 1) (map (net_tree ws) vs)) (with_place es (word_at ws (get_or vs i d).name) i)
+finds_next ws vs es i d l h =
+    let xs : List NetTree = map (net_tree ws) vs in
     let long : length xs ≡ length vs = simp length-map in
-    let here : get_or xs i (net_tree d) ≡ net_tree (get_or vs i d) = get_or-map net_tree vs i d (net_tree d) l in
-    let e : take (i + 1) xs ≡ take i xs ++ net_tree (get_or vs i d) ∷ [] = take_more xs i (net_tree d) (omega arith) ∙
+    let here : get_or xs i (net_tree ws d) ≡ net_tree ws (get_or vs i d) = get_or-map (net_tree ws) vs i d (net_tree ws d) l in
+    let e : take (i + 1) xs ≡ take i xs ++ net_tree ws (get_or vs i d) ∷ [] = take_more xs i (net_tree ws d) (omega arith) ∙
     ap (λ (x : NetTree). take i xs ++ x ∷ []) here in
     let n : length (take i xs) ≡ i = omega (arith, length-take i xs) in
-    let made = finds_more (take i xs) es (net_tree (get_or vs i d)) h in
-    subst (λ ns. Finds ns (with_place es (string_bytes (get_or vs i d).name) i)) (sym e)
-    (subst (λ k. Finds (take i xs ++ net_tree (get_or vs i d) ∷ []) (with_place es (string_bytes (get_or vs i d).name) k)) n made)
+    let made = finds_more (take i xs) es (net_tree ws (get_or vs i d)) h in
+    subst (λ ns. Finds ns (with_place es (word_at ws (get_or vs i d).name) i)) (sym e)
+    (subst (λ k. Finds (take i xs ++ net_tree ws (get_or vs i d) ∷ []) (with_place es (word_at ws (get_or vs i d).name) k)) n made)
+
+-- a declared name is that which was looked for
+pub named_is : (ns : List NetTree) (n : List ℕ) (x : NetTree) → net_named ns n ≡ Some x → x.name ≡ n
+unfolding net_named
+named_is ns n x h = same_bytes x.name n ((find_some (λ (y : NetTree). bytes_eq y.name n) ns x h).1)
+
+-- the places of the declarations, by numbers
+pub places_found : (ws : List (List ℕ)) (ns : List NetTree) (es : List Entry) (ps : List (Option ℕ)) → Finds ns es → AreNoted ws es ps → ArePlaces ws ns ps
+places_found ws ns es ps h f k p e = sym (h (word_at ws k)) ∙ f k p e
+
+none_got : (n k : ℕ) (x : Option ℕ) → slice_get (replicate n None) k ≡ Some x → x ≡ None
+none_got zero k x e = absurd (let s : None ≡ Some x = e in cc)
+none_got (suc n) zero x e = (let s : Some None ≡ Some x = e in cc)
+none_got (suc n) (suc k) x e = none_got n k x e
+
+pub none_noted : (ws : List (List ℕ)) (es : List Entry) (n : ℕ) → AreNoted ws es (replicate n None)
+none_noted ws es n k p e = absurd (let s : Some p ≡ None = none_got n k (Some p) e in cc)
+
+set_got : (ps : List (Option ℕ)) (i k : ℕ) (x y : Option ℕ) → slice_get (slice_set ps i x) k ≡ Some y
+    → ((i ≡ k) × (y ≡ x)) ⊎ (slice_get ps k ≡ Some y)
+set_got [] i k x y e = absurd (let s : None ≡ Some y = e in cc)
+set_got (q ∷ qs) zero zero x y e = inl (refl, (let s : Some x ≡ Some y = e in cc))
+set_got (q ∷ qs) zero (suc k) x y e = inr e
+set_got (q ∷ qs) (suc i) zero x y e = inr e
+set_got (q ∷ qs) (suc i) (suc k) x y e = elim (set_got qs i k x y e) [
+  | inl s ↦ inl (ap suc s.0, s.1)
+  | inr g ↦ inr g
+]
+
+-- those that were noted stay so
+noted_with : (ws : List (List ℕ)) (es : List Entry) (ps : List (Option ℕ)) (m : List ℕ) (q : ℕ) → AreNoted ws es ps → AreNoted ws (with_place es m q) ps
+noted_with ws es ps m q h k p e =
+    place_with es m q (word_at ws k) ∙ ap (λ o. or_else o (if bytes_eq (word_at ws k) m then Some q else None)) (h k p e)
+
+place_put : (es : List Entry) (m : List ℕ) (q : ℕ) → is_some (place_in es m) ≡ false → place_in (with_place es m q) m ≡ Some q
+place_put es m q none =
+    place_with es m q m
+    ∙ ap (λ b. or_else (place_in es m) (if b then Some q else None)) (bytes_same m m refl)
+    ∙ ap (λ o. or_else o (Some q)) (absent (place_in es m) none)
+  where
+    absent : (o : Option ℕ) → is_some o ≡ false → o ≡ None
+    absent None e = refl
+    absent (Some x) e = absurd (let s : true ≡ false = e in cc)
+
+pub noted_more : (ws : List (List ℕ)) (es : List Entry) (ps : List (Option ℕ)) (i q : ℕ) (there : Bool) → there ≡ is_some (place_in es (word_at ws i))
+    → AreNoted ws es ps → AreNoted ws (with_place es (word_at ws i) q) (if there then ps else slice_set ps i (Some q))
+noted_more ws es ps i q true t h = noted_with ws es ps (word_at ws i) q h
+noted_more ws es ps i q false t h = λ k p e. elim (set_got ps i k (Some q) (Some p) e) [
+  | inl s ↦
+      let same : q ≡ p = (let u : Some p ≡ Some q = s.1 in cc) in
+      ap (λ j. place_in (with_place es (word_at ws i) q) (word_at ws j)) (sym s.0) ∙ place_put es (word_at ws i) q (sym t) ∙ ap Some same
+  | inr g ↦ noted_with ws es ps (word_at ws i) q h k p g
+]
+
+-- the nets from one on, where the first is looked at
+pub net_there : (ws : List (List ℕ)) (vs : List VNet) (i : ℕ) (d : VNet) → i < length vs
+    → slice_get (map (net_tree ws) vs) i ≡ Some (net_tree ws (get_or vs i d))
+net_there ws [] i d l = absurd (omega arith)
+net_there ws (v ∷ vs) zero d l = refl
+net_there ws (v ∷ vs) (suc i) d l = net_there ws vs i d (omega arith)
+
+-- a place behind so many nets
+abbrev pub behind : ℕ → Option ℕ → Option ℕ
+behind k None = None
+behind k (Some p) = Some (k + p)
+
+drop_at : (ns : List NetTree) (i : ℕ) (x : NetTree) → slice_get ns i ≡ Some x → drop i ns ≡ x ∷ drop (i + 1) ns
+drop_at ns i x found = drop_more ns i x (slice_get_within ns i x found) ∙ ap (λ u. u ∷ drop (i + 1) ns) (get_or_from_slice_get ns i x x found)
+
+pub named_head : (ns : List NetTree) (i : ℕ) (x : NetTree) (n : List ℕ) → slice_get ns i ≡ Some x → bytes_eq x.name n ≡ true
+    → Some i ≡ behind i (place_named (drop i ns) n)
+named_head ns i x n e h =
+    ap Some (let z : i ≡ i + 0 = omega arith in z)
+    ∙ sym (ap (λ (xs : List NetTree). behind i (place_named xs n)) (drop_at ns i x e)
+    ∙ ap (behind i) (cond-true _ (Some 0) (option_map suc (place_named (drop (i + 1) ns) n)) h))
+
+pub named_tail : (ns : List NetTree) (i : ℕ) (x : NetTree) (n : List ℕ) → slice_get ns i ≡ Some x → bytes_eq x.name n ≡ false
+    → behind (i + 1) (place_named (drop (i + 1) ns) n) ≡ behind i (place_named (drop i ns) n)
+named_tail ns i x n e h =
+    one (place_named (drop (i + 1) ns) n)
+    ∙ sym (ap (λ (xs : List NetTree). behind i (place_named xs n)) (drop_at ns i x e)
+    ∙ ap (behind i) (cond-false _ (Some 0) (option_map suc (place_named (drop (i + 1) ns) n)) h))
+  where
+    one : (o : Option ℕ) → behind (i + 1) o ≡ behind i (option_map suc o)
+    one None = refl
+    one (Some p) = ap Some (let z : i + 1 + p ≡ i + suc p = omega arith in z)
+
+pub named_none : (ns : List NetTree) (i : ℕ) (n : List ℕ) → length ns ≤ i → None ≡ behind i (place_named (drop i ns) n)
+named_none ns i n l = sym (ap (λ (xs : List NetTree). behind i (place_named xs n)) (drop_all i ns l))

@@ -7,7 +7,7 @@ use Rattle.ae_vread.specs.declared.module.NetKind.TheVariants.{Input, Wire, OutW
 use Rattle.ae_vtoken.specs.declared.token.Sign.TheVariants.{Close, Semicolon}
 use Rattle.ae_vtoken.specs.declared.token.Key.TheVariants.{EndModule}
 use Rattle.ae_vread.specs.ModuleTree.{ExprTree, name, constant, place, part, index, unary, binary, choice, concat_one, concat_more, StmtTree, NetTree, DriveTree, ModuleTree}
-use Rattle.ae_vread.specs.Tokens.{TokenTree, Name, Word, Mark}
+use Rattle.ae_vtoken.specs.Tokens.{TokenTree, Name, Word, Mark}
 use Rattle.ae_vread.specs.ExprForms.{NumberForm, ExprForm, NameForm, ConstForm, PartForm, PlaceForm, IndexForm, ParensForm, PrefixForm, InfixForm, ChoiceForm, BracesForm, LastPart, MoreParts, expr_tokens, expr_of}
 use Rattle.ae_vread.specs.StmtForms.{StmtForm, SetForm, PutPlaceForm, PutForm, IfForm, IfElseForm, BlockForm, NoMore, More, test_tokens, stmt_tokens, stmt_of}
 use Rattle.ae_vread.specs.Forms.{PortHead, InputHead, OutputHead, OutputRegHead, PortForm, DriveForm, ItemForm, WireItem, WireDrives, RegItem, AssignItem, AlwaysItem, ModuleForm, range_tokens, head_tokens, comma_tokens, name_tokens, port_tokens, drive_tokens, reg_tokens, item_tokens, module_tokens, size_of, net_of, head_kind, port_nets, reg_kind, reg_net, drive_of, item_nets, nets_from, item_of, module_of}

@@ -7,8 +7,8 @@ use Rattle.std.specs.Str.Parse.{digits_value, digits_value_after}
 use Rattle.std.proofs.lemmas.Bool.{cases_Bool, cond-true, cond-false}
 use Rattle.std.proofs.lemmas.Bool.Decides.{nat_tests}
 use Rattle.ae_vtoken.specs.declared.token.Key.{Key}
-use Rattle.ae_vread.specs.Tables.{keys, signs}
-use Rattle.ae_vread.specs.Tokens.{TokenTree, Name, Unused, Zero, Decimal, Sized, Mark, look_up, is_unused, is_blank, is_word_start, is_word_byte, Place, Between, InLine, Opened, InBlock, Closing, after_gap, word_of, base_of, are_digits, constant, sized_of, decimal_of, number_from, token_of, AreTokens, No_more, Then}
+use Rattle.ae_vtoken.specs.Tables.{keys, signs}
+use Rattle.ae_vtoken.specs.Tokens.{TokenTree, Name, Unused, Zero, Decimal, Sized, Mark, look_up, is_unused, is_blank, is_word_start, is_word_byte, Place, Between, InLine, Opened, InBlock, Closing, after_gap, word_of, base_of, are_digits, constant, sized_of, decimal_of, number_from, token_of, AreTokens, No_more, Then}
 use Rattle.ae_judge.specs.Shape.{IsConstant}
 
 abbrev pub IsSound : TokenTree → Type 0

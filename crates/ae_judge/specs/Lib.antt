@@ -3,6 +3,8 @@ pub mod Widths
 pub mod Weight
 pub mod Faults
 pub mod Places
+pub mod Seen
 pub mod Shape
 pub mod Regular
 pub mod Judging
+pub mod Table

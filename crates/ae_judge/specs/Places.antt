@@ -1,9 +1,9 @@
 -- Names with places, and the places of a module's nets.
-use Rattle.std.specs.Prelude.{ℕ, ◌≡◌, ◌<◌, List, [], ◌∷◌, ◌++◌, Option, Some, None, is_some, if◌then◌else◌, bytes_eq, length, map, slice_get, option_and_then}
+use Rattle.std.specs.Prelude.{ℕ, suc, ◌≡◌, List, [], ◌∷◌, ◌++◌, Option, Some, None, is_some, if◌then◌else◌, bytes_eq, map, slice_get, option_map}
 use Rattle.std.specs.List.{list_any}
 use Rattle.std.specs.Borrow.{Bor}
 use Rattle.ae_vread.specs.ModuleTree.{NetTree}
-use Rattle.ae_judge.specs.Names.{net_named}
+use Rattle.ae_vread.specs.View.{word_at}
 
 -- a name and its place
 abbrev pub Entry : Type 0
@@ -26,8 +26,18 @@ places_of es = map (λ (e : Bor (List ℕ) × ℕ). (e.0.now, e.1)) es
 abbrev pub HasNames : List Entry → List (List ℕ) → Type 0
 HasNames es ns = (n : List ℕ) → is_some (place_in es n) ≡ list_any (bytes_eq n) ns
 
+-- the place of the first net of a name
+abbrev pub place_named : List NetTree → List ℕ → Option ℕ
+place_named [] n = None
+place_named (x ∷ xs) n = if bytes_eq x.name n then Some 0 else option_map suc (place_named xs n)
+
 -- each name's place is that of its declaration
 abbrev pub Finds : List NetTree → List Entry → Type 0
-Finds ns es =
-    ((n : List ℕ) → option_and_then (slice_get ns) (place_in es n) ≡ net_named ns n)
-    × ((n : List ℕ) (p : ℕ) → place_in es n ≡ Some p → p < length ns)
+Finds ns es = (n : List ℕ) → place_in es n ≡ place_named ns n
+
+-- by the numbers of names, the places of their declarations, as far as they are noted
+abbrev pub AreNoted : List (List ℕ) → List Entry → List (Option ℕ) → Type 0
+AreNoted ws es ps = (k p : ℕ) → slice_get ps k ≡ Some (Some p) → place_in es (word_at ws k) ≡ Some p
+
+abbrev pub ArePlaces : List (List ℕ) → List NetTree → List (Option ℕ) → Type 0
+ArePlaces ws ns ps = (k p : ℕ) → slice_get ps k ≡ Some (Some p) → place_named ns (word_at ws k) ≡ Some p

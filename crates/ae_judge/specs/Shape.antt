@@ -53,12 +53,6 @@ EachInItem P Q (nets drives) = AllByRecursion (EachInDrive P) drives
 EachInItem P Q (assigns drives) = AllByRecursion (EachInDrive P) drives
 EachInItem P Q (always clock body) = EachInStmt P Q body
 
-abbrev pub IsLetteredStmt : StmtTree → Type 0
-IsLetteredStmt s = EachInStmt IsLettered IsLettered s
-
-abbrev pub IsLetteredDrive : DriveTree → Type 0
-IsLetteredDrive d = IsLettered d.value
-
 abbrev pub IsLetteredItem : ItemTree → Type 0
 IsLetteredItem i = EachInItem IsLettered IsLettered i
 

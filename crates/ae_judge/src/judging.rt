@@ -6,11 +6,12 @@ ghost use Rattle.ae_judge.specs.Faults.{HasUnknown, HasTwice, HasKind, HasUndriv
 ghost use Rattle.ae_judge.specs.Judging.{IsEarly, IsFirstOf, IsSound, earlier, with_names};
 ghost use Rattle.ae_judge.specs.Names.{item_targets};
 ghost use Rattle.ae_judge.specs.Shape.{IsShapely};
+ghost use Rattle.ae_judge.specs.Table.{table_of};
 
 use crate::fault::ElabFault;
 use crate::kinds::{clock_of, first_misuse};
 use crate::names::Names;
-use crate::places::Places;
+use crate::seen::Seen;
 use crate::twice::{first_twice, first_undriven};
 use crate::unknown::first_unknown;
 use crate::widths::{first_too_large, first_too_wide};
@@ -40,35 +41,39 @@ fn earlier(a: Option<u32>, b: Option<u32>) -> Option<u32>
 }
 
 /// The first item that uses a name that is not declared before.
-fn unknown_item(alloc: Global, m: &VModule, names: &Names<'_>) -> Result<Option<u32>, AllocError>
+fn unknown_item(
+    alloc: Global,
+    m: &VModule<'_>,
+    names: &Names<'_>,
+) -> Result<Option<u32>, AllocError>
     requires shape { IsShapely (module_tree m.now) }
-    requires names { names.now ≡ (module_tree m.now).nets }
+    requires names { names.now ≡ table_of m.now.words m.now.nets.items }
     ensures { IfOk result (λ o. IsFirstOf (HasUnknown (module_tree m.now)) o) }
 {
     first_unknown(alloc, names, &m.items)
 }
 
 /// The first item that declares or drives a name again. Where there is none, the names that items drive are put into `driven`.
-fn twice_item<'m>(
+fn twice_item(
     alloc: Global,
-    m: &'m VModule,
-    names: &Names<'_>,
-    driven: &mut Places<'m>,
+    m: &VModule<'_>,
+    driven: &mut Seen<'_>,
 ) -> Result<Option<u32>, AllocError>
     requires shape { IsShapely (module_tree m.now) }
-    requires names { names.now ≡ (module_tree m.now).nets }
-    requires none { driven.old ≡ [] }
+    requires names { driven.old.table ≡ table_of m.now.words m.now.nets.items }
+    requires none { driven.old.entries ≡ [] }
     ensures first { IfOk result (λ o. IsFirstOf (HasTwice (module_tree m.now)) o) }
-    ensures driven { IfOk result (λ o. o ≡ None → driven.new ≡ with_names [] (flat_map item_targets (module_tree m.now).items)) }
+    ensures driven { IfOk result (λ o. o ≡ None → driven.new ≡ record driven.old { entries = with_names [] (flat_map item_targets (module_tree m.now).items) }) }
 {
-    let twice = first_twice(alloc, names, driven, &m.items)?;
-    Ok(earlier(names.again(), twice))
+    let again = driven.names().again();
+    let twice = first_twice(alloc, driven, &m.items)?;
+    Ok(earlier(again, twice))
 }
 
 /// The first item that uses a name as its kind does not allow.
-fn kind_item(alloc: Global, m: &VModule, names: &Names<'_>) -> Result<Option<u32>, AllocError>
+fn kind_item(alloc: Global, m: &VModule<'_>, names: &Names<'_>) -> Result<Option<u32>, AllocError>
     requires shape { IsShapely (module_tree m.now) }
-    requires names { names.now ≡ (module_tree m.now).nets }
+    requires names { names.now ≡ table_of m.now.words m.now.nets.items }
     ensures { IfOk result (λ o. IsFirstOf (HasKind (module_tree m.now)) o) }
 {
     let clock = clock_of(names, &m.items);
@@ -76,29 +81,33 @@ fn kind_item(alloc: Global, m: &VModule, names: &Names<'_>) -> Result<Option<u32
 }
 
 /// The place of the first net that nothing drives.
-fn undriven_net(m: &VModule, driven: &Places<'_>) -> Option<u32>
+fn undriven_net(m: &VModule<'_>, driven: &Seen<'_>) -> Option<u32>
+    requires names { driven.now.table ≡ table_of m.now.words m.now.nets.items }
     requires shape { IsShapely (module_tree m.now) }
-    requires driven { driven.now ≡ with_names [] (flat_map item_targets (module_tree m.now).items) }
+    requires driven { driven.now.entries ≡ with_names [] (flat_map item_targets (module_tree m.now).items) }
     ensures { IsFirstOf (HasUndriven (module_tree m.now)) result }
 {
     first_undriven(driven, &m.nets)
 }
 
 /// The first item in which something is out of its range.
-fn width_item(m: &VModule, names: &Names<'_>) -> Option<u32>
+fn width_item(m: &VModule<'_>, names: &Names<'_>) -> Option<u32>
     requires shape { IsShapely (module_tree m.now) }
-    requires names { names.now ≡ (module_tree m.now).nets }
+    requires names { names.now ≡ table_of m.now.words m.now.nets.items }
     ensures { IsFirstOf (HasWidth (module_tree m.now)) result }
 {
-    earlier(first_too_large(&m.nets), first_too_wide(names, &m.items))
+    earlier(
+        first_too_large(names, &m.nets),
+        first_too_wide(names, &m.items),
+    )
 }
 
 /// Whether a module has no fault but, it may be, a loop or too great a weight; else its first fault. Kinds of fault come
 /// in the order of `ElabFault`, each over the whole module. The time is linear in the module, as long as each name is found
 /// in time linear in it (`Keyed`).
-pub fn judge(alloc: Global, m: &VModule, names: &Names<'_>) -> Result<(), ElabFault>
+pub fn judge(alloc: Global, m: &VModule<'_>, names: &Names<'_>) -> Result<(), ElabFault>
     requires shape { IsShapely (module_tree m.now) }
-    requires names { names.now ≡ (module_tree m.now).nets }
+    requires names { names.now ≡ table_of m.now.words m.now.nets.items }
     ensures sound { OnOk result (IsSound (module_tree m.now)) }
     ensures fault { IfErr result (λ e. IsFault (module_tree m.now) e) }
     ensures early { IfErr result (λ e. IsEarly e) }
@@ -106,8 +115,8 @@ pub fn judge(alloc: Global, m: &VModule, names: &Names<'_>) -> Result<(), ElabFa
     if let Some(item) = unknown_item(alloc, m, names)? {
         return Err(ElabFault::Unknown { item });
     }
-    let mut driven = Places::with_room(alloc, names.keyed(), m.nets.len())?;
-    if let Some(item) = twice_item(alloc, m, names, &mut driven)? {
+    let mut driven = Seen::of(alloc, names)?;
+    if let Some(item) = twice_item(alloc, m, &mut driven)? {
         return Err(ElabFault::Twice { item });
     }
     if let Some(item) = kind_item(alloc, m, names)? {

@@ -7,6 +7,7 @@ mod kinds;
 mod names;
 mod places;
 mod reads;
+mod seen;
 mod shape;
 mod twice;
 mod unknown;

@@ -1,40 +1,45 @@
 // The declarations of names.
 
-ghost use Rattle.std.specs.Prelude.{◌≡◌, ◌<◌, IfOk, IfSome, Some, None, if◌then◌else◌, [], length, map, option_and_then, option_map, slice_get};
+ghost use Rattle.std.specs.Prelude.{◌≡◌, ◌<◌, ◌^◌, IfOk, IfSome, Some, None, if◌then◌else◌, [], length, map, option_and_then, option_map, replicate, slice_get, slice_set};
 ghost use Rattle.std.specs.Option.{option_or};
-ghost use Rattle.ae_vread.specs.View.{net_tree};
+ghost use Rattle.ae_vread.specs.View.{net_tree, word_at};
 ghost use Rattle.ae_judge.specs.Names.{net_named, is_input_name, is_wire_name, is_register_name, is_memory_name, is_ranged, is_one_bit_input, depth_of, is_input_kind, is_wire_kind, is_register_kind, is_memory_kind, depth_of_kind};
+ghost use Rattle.ae_judge.specs.Table.{table_of};
+ghost use Rattle.ae_judge.specs.Places.{place_named};
 ghost use Rattle.ae_judge.specs.Judging.{first_again};
 ghost use Rattle.ae_judge.specs.Widths.{declared_width};
 
 use crate::places::Places;
 use ae_keyed::Keyed;
-use ae_vread::{NetKind, VNet};
+use ae_vread::{NetKind, VNet, Words};
 use std::alloc::{AllocError, Global};
 use std::marker::Model;
 
 /// The nets of a module, found by their names: of nets of one name the first.
 #[derive(Drop)]
 pub struct Names<'m> {
+    words: &'m Words<'m>,
     nets: &'m [VNet],
-    places: Places<'m>,
+    /// The place of the first declaration of each name, by its number.
+    places: Vec<Option<u32>>,
+    /// How names are hashed.
+    keyed: Keyed,
     /// The item of the first net whose name an earlier one has.
     again: Option<u32>,
 }
 
 impl<'m> Model for Names<'m> {
-    ghost use Rattle.std.specs.Prelude.{List, map};
-    ghost use Rattle.ae_vread.specs.ModuleTree.{NetTree};
+    ghost use Rattle.std.specs.Prelude.{◌≡◌, [], map};
     ghost use Rattle.ae_vread.specs.View.{net_tree};
-    ghost use Rattle.std.specs.Prelude.{◌≡◌, []};
-    ghost use Rattle.ae_judge.specs.Places.{Finds};
+    ghost use Rattle.ae_judge.specs.Table.{NameTable, table_of};
+    ghost use Rattle.ae_judge.specs.Places.{ArePlaces};
     ghost use Rattle.ae_judge.specs.Judging.{first_again};
 
-    ghost Value = { List NetTree };
+    ghost Value = { NameTable };
 
-    ghost view = { λ s. map net_tree s.nets.now };
+    ghost view = { λ s. table_of s.words.now s.nets.now };
 
-    ghost invariant = { λ s. Finds (map net_tree s.nets.now) s.places × (s.again ≡ first_again [] (map net_tree s.nets.now)) };
+    ghost invariant = { λ s. ArePlaces s.words.now (map (net_tree s.words.now) s.nets.now) s.places.items × (s.again ≡ first_again [] (map (net_tree s.words.now) s.nets.now)) };
 }
 
 /// The item that is noted already, or this one where its name was there.
@@ -48,67 +53,151 @@ fn noted(again: Option<u32>, there: bool, item: u32) -> Option<u32>
 }
 
 /// What names are hashed behind: all of them.
-fn keyed_by(nets: &[VNet]) -> Keyed {
+fn keyed_by(words: &Words<'_>, nets: &[VNet]) -> Keyed {
     let mut keyed = Keyed::behind(&[]);
     for net in nets {
-        keyed.pass(net.name.as_bytes());
+        keyed.pass(words.name(net.name).as_bytes());
     }
     keyed
 }
 
+/// No places, for so many names.
+fn no_places(alloc: Global, count: usize) -> Result<Vec<Option<u32>>, AllocError>
+    ensures { IfOk result (λ places. places.items ≡ replicate count None) }
+{
+    let places = vec![in alloc; None; count]?;
+    Ok(places)
+}
+
+/// Notes the place of a name by its number, unless the name was there before.
+fn note(places: &mut Vec<Option<u32>>, there: bool, number: u32, place: usize)
+    requires few { place < 2 ^ 32 }
+    ensures { places.new.items ≡ (if there then places.old.items else slice_set places.old.items number (Some place)) }
+{
+    if there {
+        return;
+    }
+    if let Some(noted) = places.get_mut(number as usize) {
+        *noted = Some(place as u32);
+    }
+}
+
 impl<'m> Names<'m> {
     /// A table of these nets, in time linear in their names.
-    pub fn of(alloc: Global, nets: &'m [VNet]) -> Result<Names<'m>, AllocError>
-        ensures { IfOk result (λ t. t ≡ map net_tree nets.now) }
+    pub fn of(
+        alloc: Global,
+        words: &'m Words<'m>,
+        nets: &'m [VNet],
+    ) -> Result<Names<'m>, AllocError>
+        requires few { length nets.now < 2 ^ 32 }
+        ensures { IfOk result (λ t. t ≡ table_of words.now nets.now) }
     {
-        let mut places = Places::with_room(alloc, keyed_by(nets), nets.len())?;
+        let keyed = keyed_by(words, nets);
+        let mut found = Places::with_room(alloc, keyed, nets.len())?;
+        let mut places = no_places(alloc, words.len())?;
         let mut again = None;
         'net: for place in 0..nets.len() {
-            let there = places.put(nets[place].name.as_str(), place)?;
-            again = noted(again, there, nets[place].item);
+            let net = nets[place];
+            let there = found.put(words.name(net.name), place)?;
+            note(&mut places, there, net.name, place);
+            again = noted(again, there, net.item);
         }
         Ok(Names {
+            words,
             nets,
             places,
+            keyed,
             again,
         })
     }
 
     /// The allocator that it was made with.
     pub fn alloc(&self) -> Global {
-        self.places.alloc()
+        *self.places.allocator()
+    }
+
+    /// How many nets there are.
+    pub fn len(&self) -> usize
+        ensures { result ≡ length self.now.nets }
+    {
+        self.nets.len()
     }
 
     /// How names are hashed: behind all of these.
     pub fn keyed(&self) -> Keyed {
-        self.places.keyed()
+        self.keyed
     }
 
     /// The item of the first net whose name an earlier one has.
     pub fn again(&self) -> Option<u32>
-        ensures { result ≡ first_again [] self.now }
+        ensures { result ≡ first_again [] self.now.nets }
     {
         self.again
     }
 
-    /// The place of a name's declaration among the nets.
-    pub fn place(&self, name: &str) -> Option<usize>
-        ensures within { IfSome result (λ p. p < length self.now) }
-        ensures net { option_and_then (slice_get self.now) result ≡ net_named self.now name.now }
+    /// The text of a name.
+    pub fn word(&self, name: u32) -> &'m str
+        ensures { result.now ≡ word_at self.now.words name }
     {
-        self.places.find(name)
+        self.words.name(name)
+    }
+
+    /// The place that is noted for a number, or found by its text.
+    fn noted_place(&self, name: u32) -> Option<usize>
+        ensures { result ≡ place_named self.now.nets (word_at self.now.words name) }
+    {
+        let noted = self.places.get(name as usize).copied();
+        match noted.flatten() {
+            Some(place) => Some(place as usize),
+            None => self.scan(self.words.name(name)),
+        }
+    }
+
+    /// The place of a name's declaration among the nets.
+    pub fn place(&self, name: u32) -> Option<usize>
+        ensures place { result ≡ place_named self.now.nets (word_at self.now.words name) }
+        ensures within { IfSome result (λ p. p < length self.now.nets) }
+        ensures net { option_and_then (slice_get self.now.nets) result ≡ net_named self.now.nets (word_at self.now.words name) }
+    {
+        self.noted_place(name)
+    }
+
+    /// The place of the name with this text, in time linear in the nets.
+    fn scan(&self, word: &str) -> Option<usize>
+        ensures place { result ≡ place_named self.now.nets word.now }
+        ensures within { IfSome result (λ p. p < length self.now.nets) }
+        ensures net { option_and_then (slice_get self.now.nets) result ≡ net_named self.now.nets word.now }
+    {
+        'net: for place in 0..self.nets.len() {
+            if self.words.name(self.nets[place].name) == word {
+                return Some(place);
+            }
+        }
+        None
     }
 
     /// The declaration of a name.
-    pub fn net(&self, name: &str) -> Option<&'m VNet>
-        ensures { option_map (λ x. net_tree x.now) result ≡ net_named self.now name.now }
+    pub fn net(&self, name: u32) -> Option<&'m VNet>
+        ensures { option_map (λ x. net_tree self.now.words x.now) result ≡ net_named self.now.nets (word_at self.now.words name) }
     {
-        let place = self.places.find(name)?;
-        Some(&self.nets[place])
+        match self.place(name) {
+            Some(place) => Some(&self.nets[place]),
+            None => None,
+        }
     }
 
-    pub fn is_input(&self, name: &str) -> bool
-        ensures { result ≡ is_input_name self.now name.now }
+    /// The declaration of the name with this text, in time linear in the nets.
+    pub fn named(&self, word: &str) -> Option<&'m VNet>
+        ensures { option_map (λ x. net_tree self.now.words x.now) result ≡ net_named self.now.nets word.now }
+    {
+        match self.scan(word) {
+            Some(place) => Some(&self.nets[place]),
+            None => None,
+        }
+    }
+
+    pub fn is_input(&self, name: u32) -> bool
+        ensures { result ≡ is_input_name self.now.nets (word_at self.now.words name) }
     {
         match self.net(name) {
             Some(net) => is_input_kind(net.kind),
@@ -116,8 +205,8 @@ impl<'m> Names<'m> {
         }
     }
 
-    pub fn is_wire(&self, name: &str) -> bool
-        ensures { result ≡ is_wire_name self.now name.now }
+    pub fn is_wire(&self, name: u32) -> bool
+        ensures { result ≡ is_wire_name self.now.nets (word_at self.now.words name) }
     {
         match self.net(name) {
             Some(net) => is_wire_kind(net.kind),
@@ -125,8 +214,8 @@ impl<'m> Names<'m> {
         }
     }
 
-    pub fn is_register(&self, name: &str) -> bool
-        ensures { result ≡ is_register_name self.now name.now }
+    pub fn is_register(&self, name: u32) -> bool
+        ensures { result ≡ is_register_name self.now.nets (word_at self.now.words name) }
     {
         match self.net(name) {
             Some(net) => is_register_kind(net.kind),
@@ -134,8 +223,8 @@ impl<'m> Names<'m> {
         }
     }
 
-    pub fn is_memory(&self, name: &str) -> bool
-        ensures { result ≡ is_memory_name self.now name.now }
+    pub fn is_memory(&self, name: u32) -> bool
+        ensures { result ≡ is_memory_name self.now.nets (word_at self.now.words name) }
     {
         match self.net(name) {
             Some(net) => is_memory_kind(net.kind),
@@ -144,8 +233,8 @@ impl<'m> Names<'m> {
     }
 
     /// Whether it is declared with a range.
-    pub fn is_ranged(&self, name: &str) -> bool
-        ensures { result ≡ is_ranged self.now name.now }
+    pub fn is_ranged(&self, name: u32) -> bool
+        ensures { result ≡ is_ranged self.now.nets (word_at self.now.words name) }
     {
         match self.net(name) {
             Some(net) => net.ranged,
@@ -153,8 +242,8 @@ impl<'m> Names<'m> {
         }
     }
 
-    pub fn is_one_bit_input(&self, name: &str) -> bool
-        ensures { result ≡ is_one_bit_input self.now name.now }
+    pub fn is_one_bit_input(&self, name: u32) -> bool
+        ensures { result ≡ is_one_bit_input self.now.nets (word_at self.now.words name) }
     {
         match self.net(name) {
             Some(net) => is_input_kind(net.kind) && net.width == 1,
@@ -163,8 +252,8 @@ impl<'m> Names<'m> {
     }
 
     /// The width in bits; a memory's is that of its words, and that of no net 0.
-    pub fn width(&self, name: &str) -> u32
-        ensures { result ≡ declared_width self.now name.now }
+    pub fn width(&self, name: u32) -> u32
+        ensures { result ≡ declared_width self.now.nets (word_at self.now.words name) }
     {
         match self.net(name) {
             Some(net) => net.width,
@@ -173,8 +262,8 @@ impl<'m> Names<'m> {
     }
 
     /// How many words a memory has; no other net has any.
-    pub fn depth(&self, name: &str) -> u32
-        ensures { result ≡ depth_of self.now name.now }
+    pub fn depth(&self, name: u32) -> u32
+        ensures { result ≡ depth_of self.now.nets (word_at self.now.words name) }
     {
         match self.net(name) {
             Some(net) => depth_of_kind(net.kind),

@@ -1,17 +1,16 @@
-// The names that expressions and statements read and assign.
+// The names that expressions and statements read and assign, by their numbers.
 
-ghost use Rattle.std.specs.Prelude.{◌≡◌, ◌++◌, ◌∷◌, [], IfOk, OnOk, flat_map, map};
-ghost use Rattle.std.specs.List.{AllByRecursion};
-ghost use Rattle.ae_vread.specs.View.{expr_tree, stmt_tree, drive_tree, item_tree};
-ghost use Rattle.ae_judge.specs.Shape.{IsLettered, IsLetteredStmt, IsLetteredDrive, IsLetteredItem};
-ghost use Rattle.ae_judge.specs.Names.{names_in, stmt_reads, stmt_targets, drive_reads, target_of, item_reads, item_targets};
+ghost use Rattle.std.specs.Prelude.{ℕ, List, ◌≡◌, ◌++◌, ◌∷◌, [], IfOk, OnOk, flat_map, map};
+ghost use Rattle.ae_vread.specs.Roots.{numbered, numbered_stmt};
+ghost use Rattle.ae_vread.specs.View.{drive_tree, expr_tree, item_tree, stmt_tree, word_at};
+ghost use Rattle.ae_judge.specs.Names.{drive_reads, item_reads, item_targets, names_in, stmt_reads, stmt_targets, target_of};
 
-use ae_vread::{Drive, Expr, Stmt, VItem};
+use ae_vread::{Drive, Expr, Root, Stmt, StmtRoot, VItem};
 use std::alloc::{AllocError, Global};
 
 /// Puts a name behind others.
-pub fn push_name<'m>(name: &'m str, into: &mut Vec<&'m str>) -> Result<(), AllocError>
-    ensures { OnOk result (map (λ s. s.now) into.new.items ≡ map (λ s. s.now) into.old.items ++ name.now ∷ []) }
+pub fn push_name(name: u32, into: &mut Vec<u32>) -> Result<(), AllocError>
+    ensures { (ws : List (List ℕ)) → OnOk result (map (word_at ws) into.new.items ≡ map (word_at ws) into.old.items ++ word_at ws name ∷ []) }
 {
     into.push(name)?;
     Ok(())
@@ -19,164 +18,135 @@ pub fn push_name<'m>(name: &'m str, into: &mut Vec<&'m str>) -> Result<(), Alloc
 
 /// Puts the names that an expression reads behind others.
 #[cycle(names)]
-fn push_names<'m>(value: &'m Expr, into: &mut Vec<&'m str>) -> Result<(), AllocError>
-    requires lettered { IsLettered (expr_tree value.now) }
-    ensures { OnOk result (map (λ s. s.now) into.new.items ≡ map (λ s. s.now) into.old.items ++ names_in (expr_tree value.now)) }
+fn push_names(whole: Expr<'_>, into: &mut Vec<u32>) -> Result<(), AllocError>
+    ensures { (ws : List (List ℕ)) → OnOk result (map (word_at ws) into.new.items ≡ map (word_at ws) into.old.items ++ names_in (expr_tree ws (numbered whole.entry))) }
 {
-    match value {
-        Expr::Name(name) => push_name(name.as_str(), into),
-        Expr::Part { name, .. } => push_name(name.as_str(), into),
-        Expr::Const { .. } | Expr::Place(_) => Ok(()),
-        Expr::Index { name, at } => {
-            push_name(name.as_str(), into)?;
-            push_names(at, into)
+    let mut value = whole;
+    'part: loop {
+        match value.root() {
+            Root::Name(name) | Root::Part { name, .. } => return push_name(name, into),
+            Root::Const { .. } | Root::Place(_) => return Ok(()),
+            Root::Index { name, at } => {
+                push_name(name, into)?;
+                value = at;
+            }
+            Root::Unary(_, a) => value = a,
+            Root::Binary(_, a, b) => {
+                push_names(a, into)?;
+                value = b;
+            }
+            Root::Choose(test, a, b) => {
+                push_names(test, into)?;
+                push_names(a, into)?;
+                value = b;
+            }
+            Root::One(a) => value = a,
+            Root::More(a, rest) => {
+                push_names(a, into)?;
+                value = rest;
+            }
         }
-        Expr::Unary(_, a) => push_names(a, into),
-        Expr::Binary(_, a, b) => {
-            push_names(a, into)?;
-            push_names(b, into)
-        }
-        Expr::Choose(test, a, b) => {
-            push_names(test, into)?;
-            push_names(a, into)?;
-            push_names(b, into)
-        }
-        Expr::Concat(parts) => push_part_names(parts, into),
     }
-}
-
-#[cycle(names)]
-fn push_part_names<'m>(parts: &'m [Expr], into: &mut Vec<&'m str>) -> Result<(), AllocError>
-    requires lettered { AllByRecursion IsLettered (map expr_tree parts.now) }
-    ensures { OnOk result (map (λ s. s.now) into.new.items ≡ map (λ s. s.now) into.old.items ++ flat_map names_in (map expr_tree parts.now)) }
-{
-    for part in parts {
-        push_names(part, into)?;
-    }
-    Ok(())
 }
 
 /// Puts the names that a statement's expressions read behind others.
 #[cycle(stmt_reads)]
-fn push_stmt_reads<'m>(stmt: &'m Stmt, into: &mut Vec<&'m str>) -> Result<(), AllocError>
-    requires lettered { IsLetteredStmt (stmt_tree stmt.now) }
-    ensures { OnOk result (map (λ s. s.now) into.new.items ≡ map (λ s. s.now) into.old.items ++ stmt_reads (stmt_tree stmt.now)) }
+fn push_stmt_reads(whole: Stmt<'_>, into: &mut Vec<u32>) -> Result<(), AllocError>
+    ensures { (ws : List (List ℕ)) → OnOk result (map (word_at ws) into.new.items ≡ map (word_at ws) into.old.items ++ stmt_reads (stmt_tree ws (numbered_stmt whole.entry))) }
 {
-    match stmt {
-        Stmt::Set { value, .. } => push_names(value, into),
-        Stmt::Put { at, value, .. } => {
-            push_names(at, into)?;
-            push_names(value, into)
+    let mut stmt = whole;
+    'stmt: loop {
+        match stmt.root() {
+            StmtRoot::Set { value, .. } => return push_names(value, into),
+            StmtRoot::Put { at, value, .. } => {
+                push_names(at, into)?;
+                push_names(value, into)?;
+                return Ok(());
+            }
+            StmtRoot::When(test, then) => {
+                push_names(test, into)?;
+                stmt = then;
+            }
+            StmtRoot::Either(test, then, otherwise) => {
+                push_names(test, into)?;
+                push_stmt_reads(then, into)?;
+                stmt = otherwise;
+            }
+            StmtRoot::End => return Ok(()),
+            StmtRoot::Then(first, rest) => {
+                push_stmt_reads(first, into)?;
+                stmt = rest;
+            }
         }
-        Stmt::If {
-            test,
-            yes,
-            no: None,
-        } => {
-            push_names(test, into)?;
-            push_stmt_reads(yes, into)
-        }
-        Stmt::If {
-            test,
-            yes,
-            no: Some(no),
-        } => {
-            push_names(test, into)?;
-            push_stmt_reads(yes, into)?;
-            push_stmt_reads(no, into)
-        }
-        Stmt::Block(stmts) => push_block_reads(stmts, into),
     }
-}
-
-#[cycle(stmt_reads)]
-fn push_block_reads<'m>(stmts: &'m [Stmt], into: &mut Vec<&'m str>) -> Result<(), AllocError>
-    requires lettered { AllByRecursion IsLetteredStmt (map stmt_tree stmts.now) }
-    ensures { OnOk result (map (λ s. s.now) into.new.items ≡ map (λ s. s.now) into.old.items ++ flat_map stmt_reads (map stmt_tree stmts.now)) }
-{
-    for stmt in stmts {
-        push_stmt_reads(stmt, into)?;
-    }
-    Ok(())
 }
 
 /// Puts the names that a statement assigns behind others, in order.
 #[cycle(stmt_targets)]
-fn push_stmt_targets<'m>(stmt: &'m Stmt, into: &mut Vec<&'m str>) -> Result<(), AllocError>
-    ensures { OnOk result (map (λ s. s.now) into.new.items ≡ map (λ s. s.now) into.old.items ++ stmt_targets (stmt_tree stmt.now)) }
+fn push_stmt_targets(whole: Stmt<'_>, into: &mut Vec<u32>) -> Result<(), AllocError>
+    ensures { (ws : List (List ℕ)) → OnOk result (map (word_at ws) into.new.items ≡ map (word_at ws) into.old.items ++ stmt_targets (stmt_tree ws (numbered_stmt whole.entry))) }
 {
-    match stmt {
-        Stmt::Set { name, .. } => push_name(name.as_str(), into),
-        Stmt::Put { name, .. } => push_name(name.as_str(), into),
-        Stmt::If { yes, no: None, .. } => push_stmt_targets(yes, into),
-        Stmt::If {
-            yes,
-            no: Some(no),
-            ..
-        } => {
-            push_stmt_targets(yes, into)?;
-            push_stmt_targets(no, into)
+    let mut stmt = whole;
+    'stmt: loop {
+        match stmt.root() {
+            StmtRoot::Set { name, .. } | StmtRoot::Put { name, .. } => return push_name(name, into),
+            StmtRoot::When(_, then) => stmt = then,
+            StmtRoot::Either(_, then, otherwise) => {
+                push_stmt_targets(then, into)?;
+                stmt = otherwise;
+            }
+            StmtRoot::End => return Ok(()),
+            StmtRoot::Then(first, rest) => {
+                push_stmt_targets(first, into)?;
+                stmt = rest;
+            }
         }
-        Stmt::Block(stmts) => push_block_targets(stmts, into),
     }
 }
 
-#[cycle(stmt_targets)]
-fn push_block_targets<'m>(stmts: &'m [Stmt], into: &mut Vec<&'m str>) -> Result<(), AllocError>
-    ensures { OnOk result (map (λ s. s.now) into.new.items ≡ map (λ s. s.now) into.old.items ++ flat_map stmt_targets (map stmt_tree stmts.now)) }
+fn push_drive_reads(drives: &[Drive], into: &mut Vec<u32>) -> Result<(), AllocError>
+    ensures { (ws : List (List ℕ)) → OnOk result (map (word_at ws) into.new.items ≡ map (word_at ws) into.old.items ++ flat_map drive_reads (map (drive_tree ws) drives.now)) }
 {
-    for stmt in stmts {
-        push_stmt_targets(stmt, into)?;
+    'drive: for drive in drives {
+        push_names(drive.value.expr(), into)?;
     }
     Ok(())
 }
 
-fn push_drive_reads<'m>(drives: &'m [Drive], into: &mut Vec<&'m str>) -> Result<(), AllocError>
-    requires lettered { AllByRecursion IsLetteredDrive (map drive_tree drives.now) }
-    ensures { OnOk result (map (λ s. s.now) into.new.items ≡ map (λ s. s.now) into.old.items ++ flat_map drive_reads (map drive_tree drives.now)) }
+fn push_drive_targets(drives: &[Drive], into: &mut Vec<u32>) -> Result<(), AllocError>
+    ensures { (ws : List (List ℕ)) → OnOk result (map (word_at ws) into.new.items ≡ map (word_at ws) into.old.items ++ map target_of (map (drive_tree ws) drives.now)) }
 {
-    for drive in drives {
-        push_names(&drive.value, into)?;
-    }
-    Ok(())
-}
-
-fn push_drive_targets<'m>(drives: &'m [Drive], into: &mut Vec<&'m str>) -> Result<(), AllocError>
-    ensures { OnOk result (map (λ s. s.now) into.new.items ≡ map (λ s. s.now) into.old.items ++ map target_of (map drive_tree drives.now)) }
-{
-    for drive in drives {
-        push_name(drive.name.as_str(), into)?;
+    'drive: for drive in drives {
+        push_name(drive.name, into)?;
     }
     Ok(())
 }
 
 /// Puts the names that an item's expressions read behind others.
-pub fn push_item_reads<'m>(item: &'m VItem, into: &mut Vec<&'m str>) -> Result<(), AllocError>
-    requires lettered { IsLetteredItem (item_tree item.now) }
-    ensures { OnOk result (map (λ s. s.now) into.new.items ≡ map (λ s. s.now) into.old.items ++ item_reads (item_tree item.now)) }
+pub fn push_item_reads(item: &VItem, into: &mut Vec<u32>) -> Result<(), AllocError>
+    ensures { (ws : List (List ℕ)) → OnOk result (map (word_at ws) into.new.items ≡ map (word_at ws) into.old.items ++ item_reads (item_tree ws item.now)) }
 {
     match item {
         VItem::Nets(drives) => push_drive_reads(drives, into),
         VItem::Assign(drives) => push_drive_reads(drives, into),
-        VItem::Always { body, .. } => push_stmt_reads(body, into),
+        VItem::Always { body, .. } => push_stmt_reads(body.stmt(), into),
     }
 }
 
 /// Puts the names that an item drives behind others, in order.
-pub fn push_item_targets<'m>(item: &'m VItem, into: &mut Vec<&'m str>) -> Result<(), AllocError>
-    ensures { OnOk result (map (λ s. s.now) into.new.items ≡ map (λ s. s.now) into.old.items ++ item_targets (item_tree item.now)) }
+pub fn push_item_targets(item: &VItem, into: &mut Vec<u32>) -> Result<(), AllocError>
+    ensures { (ws : List (List ℕ)) → OnOk result (map (word_at ws) into.new.items ≡ map (word_at ws) into.old.items ++ item_targets (item_tree ws item.now)) }
 {
     match item {
         VItem::Nets(drives) => push_drive_targets(drives, into),
         VItem::Assign(drives) => push_drive_targets(drives, into),
-        VItem::Always { body, .. } => push_stmt_targets(body, into),
+        VItem::Always { body, .. } => push_stmt_targets(body.stmt(), into),
     }
 }
 
 /// The names that an expression reads.
-pub fn names_in<'m>(alloc: Global, value: &'m Expr) -> Result<Vec<&'m str>, AllocError>
-    requires lettered { IsLettered (expr_tree value.now) }
-    ensures { IfOk result (λ v. map (λ s. s.now) v.items ≡ names_in (expr_tree value.now)) }
+pub fn names_in(alloc: Global, value: Expr<'_>) -> Result<Vec<u32>, AllocError>
+    ensures { (ws : List (List ℕ)) → IfOk result (λ v. map (word_at ws) v.items ≡ names_in (expr_tree ws (numbered value.entry))) }
 {
     let mut names = Vec::new(alloc);
     push_names(value, &mut names)?;
@@ -184,9 +154,8 @@ pub fn names_in<'m>(alloc: Global, value: &'m Expr) -> Result<Vec<&'m str>, Allo
 }
 
 /// The names that an item's expressions read.
-pub fn item_reads<'m>(alloc: Global, item: &'m VItem) -> Result<Vec<&'m str>, AllocError>
-    requires lettered { IsLetteredItem (item_tree item.now) }
-    ensures { IfOk result (λ v. map (λ s. s.now) v.items ≡ item_reads (item_tree item.now)) }
+pub fn item_reads(alloc: Global, item: &VItem) -> Result<Vec<u32>, AllocError>
+    ensures { (ws : List (List ℕ)) → IfOk result (λ v. map (word_at ws) v.items ≡ item_reads (item_tree ws item.now)) }
 {
     let mut names = Vec::new(alloc);
     push_item_reads(item, &mut names)?;
@@ -194,8 +163,8 @@ pub fn item_reads<'m>(alloc: Global, item: &'m VItem) -> Result<Vec<&'m str>, Al
 }
 
 /// The names that an item drives, in order.
-pub fn item_targets<'m>(alloc: Global, item: &'m VItem) -> Result<Vec<&'m str>, AllocError>
-    ensures { IfOk result (λ v. map (λ s. s.now) v.items ≡ item_targets (item_tree item.now)) }
+pub fn item_targets(alloc: Global, item: &VItem) -> Result<Vec<u32>, AllocError>
+    ensures { (ws : List (List ℕ)) → IfOk result (λ v. map (word_at ws) v.items ≡ item_targets (item_tree ws item.now)) }
 {
     let mut names = Vec::new(alloc);
     push_item_targets(item, &mut names)?;

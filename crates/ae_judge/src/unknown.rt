@@ -1,9 +1,9 @@
 // Names that are used before they are declared.
 
-ghost use Rattle.std.specs.Prelude.{◌≡◌, ◌<◌, ◌++◌, ◌^◌, IfOk, length, map, []};
-ghost use Rattle.std.specs.List.{list_any, AllByRecursion};
-ghost use Rattle.ae_vread.specs.View.{expr_tree, drive_tree, item_tree};
-ghost use Rattle.ae_judge.specs.Shape.{IsLettered, IsLetteredDrive, IsLetteredItem};
+ghost use Rattle.std.specs.Prelude.{ℕ, List, ◌≡◌, ◌<◌, ◌++◌, ◌^◌, IfOk, length, map, []};
+ghost use Rattle.std.specs.List.{list_any};
+ghost use Rattle.ae_vread.specs.View.{drive_tree, expr_tree, item_tree, word_at};
+ghost use Rattle.ae_vread.specs.Roots.{numbered};
 ghost use Rattle.ae_judge.specs.Names.{names_in, item_reads, item_targets};
 ghost use Rattle.ae_judge.specs.Judging.{item_clock, first_from, is_declared_before, is_unknown, is_late, drives_unknown, uses_unknown};
 
@@ -13,8 +13,8 @@ use crate::reads::{names_in, push_item_reads, push_item_targets, push_name};
 use ae_vread::{Drive, Expr, VItem};
 use std::alloc::{AllocError, Global};
 
-fn is_declared_before(names: &Names<'_>, number: u32, name: &str) -> bool
-    ensures { result ≡ is_declared_before names.now number name.now }
+fn is_declared_before(names: &Names<'_>, number: u32, name: u32) -> bool
+    ensures { result ≡ is_declared_before names.now.nets number (word_at names.now.words name) }
 {
     match names.net(name) {
         Some(net) => net.item < number,
@@ -23,17 +23,17 @@ fn is_declared_before(names: &Names<'_>, number: u32, name: &str) -> bool
 }
 
 /// Whether the name is neither declared before the item nor given.
-fn is_unknown(names: &Names<'_>, number: u32, given: &Places<'_>, name: &str) -> bool
-    ensures { result ≡ is_unknown names.now number given.now name.now }
+fn is_unknown(names: &Names<'_>, number: u32, given: &Places<'_>, name: u32) -> bool
+    ensures { result ≡ is_unknown names.now.nets number given.now (word_at names.now.words name) }
 {
-    !is_declared_before(names, number, name) && !given.has(name)
+    !is_declared_before(names, number, name) && !given.has(names.word(name))
 }
 
-fn any_unknown(names: &Names<'_>, number: u32, given: &Places<'_>, used: &[&str]) -> bool
-    ensures { result ≡ list_any (is_unknown names.now number given.now) (map (λ s. s.now) used.now) }
+fn any_unknown(names: &Names<'_>, number: u32, given: &Places<'_>, used: &[u32]) -> bool
+    ensures { result ≡ list_any (is_unknown names.now.nets number given.now) (map (word_at names.now.words) used.now) }
 {
-    for name in used {
-        if is_unknown(names, number, given, name) {
+    'name: for name in used {
+        if is_unknown(names, number, given, *name) {
             return true;
         }
     }
@@ -46,10 +46,9 @@ fn value_unknown(
     names: &Names<'_>,
     number: u32,
     given: &Places<'_>,
-    value: &Expr,
+    value: Expr<'_>,
 ) -> Result<bool, AllocError>
-    requires lettered { IsLettered (expr_tree value.now) }
-    ensures { IfOk result (λ b. b ≡ list_any (is_unknown names.now number given.now) (names_in (expr_tree value.now))) }
+    ensures { IfOk result (λ b. b ≡ list_any (is_unknown names.now.nets number given.now) (names_in (expr_tree names.now.words (numbered value.entry)))) }
 {
     let used = names_in(alloc, value)?;
     Ok(any_unknown(names, number, given, &used))
@@ -62,12 +61,11 @@ fn any_late(
     number: u32,
     drives: &[Drive],
 ) -> Result<bool, AllocError>
-    requires lettered { AllByRecursion IsLetteredDrive (map drive_tree drives.now) }
-    ensures { IfOk result (λ b. b ≡ list_any (is_late names.now number) (map drive_tree drives.now)) }
+    ensures { IfOk result (λ b. b ≡ list_any (is_late names.now.nets number) (map (drive_tree names.now.words) drives.now)) }
 {
     let none = Places::new(alloc, names.keyed());
-    for drive in drives {
-        if value_unknown(alloc, names, number, &none, &drive.value)? {
+    'drive: for drive in drives {
+        if value_unknown(alloc, names, number, &none, drive.value.expr())? {
             return Ok(true);
         }
     }
@@ -83,30 +81,28 @@ fn drives_unknown(
     number: u32,
     drives: &[Drive],
 ) -> Result<bool, AllocError>
-    requires lettered { AllByRecursion IsLetteredDrive (map drive_tree drives.now) }
-    ensures { IfOk result (λ b. b ≡ drives_unknown names.now number [] (map drive_tree drives.now)) }
+    ensures { IfOk result (λ b. b ≡ drives_unknown names.now.nets number [] (map (drive_tree names.now.words) drives.now)) }
 {
     if !any_late(alloc, names, number, drives)? {
         return Ok(false);
     }
     let mut given = Places::with_room(alloc, names.keyed(), drives.len())?;
-    for drive in drives {
-        if value_unknown(alloc, names, number, &given, &drive.value)? {
+    'drive: for drive in drives {
+        if value_unknown(alloc, names, number, &given, drive.value.expr())? {
             return Ok(true);
         }
-        given.put(drive.name.as_str(), 0)?;
+        given.put(names.word(drive.name), 0)?;
     }
     Ok(false)
 }
 
 /// The clock that an item names, the names that it drives, and those that it reads.
-fn named_outside<'m>(alloc: Global, item: &'m VItem) -> Result<Vec<&'m str>, AllocError>
-    requires lettered { IsLetteredItem (item_tree item.now) }
-    ensures { IfOk result (λ v. map (λ s. s.now) v.items ≡ (item_clock (item_tree item.now) ++ item_targets (item_tree item.now)) ++ item_reads (item_tree item.now)) }
+fn named_outside(alloc: Global, item: &VItem) -> Result<Vec<u32>, AllocError>
+    ensures { (ws : List (List ℕ)) → IfOk result (λ v. map (word_at ws) v.items ≡ (item_clock (item_tree ws item.now) ++ item_targets (item_tree ws item.now)) ++ item_reads (item_tree ws item.now)) }
 {
     let mut used = Vec::new(alloc);
     if let VItem::Always { clock, .. } = item {
-        push_name(clock.as_str(), &mut used)?;
+        push_name(*clock, &mut used)?;
     }
     push_item_targets(item, &mut used)?;
     push_item_reads(item, &mut used)?;
@@ -120,8 +116,7 @@ fn uses_unknown(
     number: u32,
     item: &VItem,
 ) -> Result<bool, AllocError>
-    requires lettered { IsLetteredItem (item_tree item.now) }
-    ensures { IfOk result (λ b. b ≡ uses_unknown names.now number (item_tree item.now)) }
+    ensures { IfOk result (λ b. b ≡ uses_unknown names.now.nets number (item_tree names.now.words item.now)) }
 {
     if let VItem::Nets(drives) = item {
         return drives_unknown(alloc, names, number, drives);
@@ -138,11 +133,10 @@ pub fn first_unknown(
     items: &[VItem],
 ) -> Result<Option<u32>, AllocError>
     requires few { length items.now < 2 ^ 32 }
-    requires lettered { AllByRecursion IsLetteredItem (map item_tree items.now) }
-    ensures { IfOk result (λ o. o ≡ first_from (uses_unknown names.now) 1 (map item_tree items.now)) }
+    ensures { IfOk result (λ o. o ≡ first_from (uses_unknown names.now.nets) 1 (map (item_tree names.now.words) items.now)) }
 {
     let mut number: u32 = 0;
-    for item in items {
+    'item: for item in items {
         number += 1;
         if uses_unknown(alloc, names, number, item)? {
             return Ok(Some(number));

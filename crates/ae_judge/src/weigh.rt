@@ -1,13 +1,12 @@
 // The weight of a module, which bounds the netlist that is built of it.
 
-ghost use Rattle.std.specs.Prelude.{◌≡◌, ◌+◌, ◌↔◌, IsTrue, map, min, sum_by};
-ghost use Rattle.std.specs.List.{AllByRecursion};
-ghost use Rattle.ae_vread.specs.View.{expr_tree, stmt_tree, drive_tree, item_tree, module_tree};
-ghost use Rattle.ae_judge.specs.Shape.{IsLettered, IsLetteredStmt, IsLetteredDrive, IsLetteredItem};
+ghost use Rattle.std.specs.Prelude.{ℕ, List, ◌≡◌, ◌+◌, ◌↔◌, IsTrue, map, min, sum_by};
+ghost use Rattle.ae_vread.specs.Roots.{numbered, numbered_stmt};
+ghost use Rattle.ae_vread.specs.View.{drive_tree, expr_tree, item_tree, module_tree, stmt_tree};
 ghost use Rattle.ae_judge.specs.Weight.{operator_weight, shift_weight, expr_weight, stmt_weight, drive_weight, item_weight};
 ghost use Rattle.ae_judge.specs.Faults.{IsLarge};
 
-use ae_vread::{BinOp, Drive, Expr, Stmt, VItem, VModule};
+use ae_vread::{BinOp, Drive, Expr, Root, Stmt, StmtRoot, VItem, VModule};
 
 /// The least weight of a module that is not built. Greater weights are not told apart from it.
 const LARGE: u32 = 10_000_001;
@@ -18,8 +17,8 @@ fn heavier(a: u32, b: u32) -> u32
     a.saturating_add(b).min(LARGE)
 }
 
-fn operator_weight(op: BinOp, amount: &Expr) -> u32
-    ensures { result ≡ operator_weight op (expr_tree amount.now) }
+fn operator_weight(op: BinOp, amount: Expr<'_>) -> u32
+    ensures { (ws : List (List ℕ)) → result ≡ operator_weight op (expr_tree ws (numbered amount.entry)) }
 {
     match op {
         BinOp::Shl | BinOp::Shr => shift_weight(amount),
@@ -30,134 +29,127 @@ fn operator_weight(op: BinOp, amount: &Expr) -> u32
 }
 
 /// A shift by no constant stands for six shifts by a constant.
-fn shift_weight(amount: &Expr) -> u32
-    ensures { result ≡ shift_weight (expr_tree amount.now) }
+fn shift_weight(amount: Expr<'_>) -> u32
+    ensures { (ws : List (List ℕ)) → result ≡ shift_weight (expr_tree ws (numbered amount.entry)) }
 {
-    match amount {
-        Expr::Const { .. } => 1,
+    match amount.root() {
+        Root::Const { .. } => 1,
         _ => 6,
     }
 }
 
+/// One for each part of a concatenation, beside the weights of the parts.
 #[cycle(weigh)]
-fn expr_weight(value: &Expr) -> u32
-    requires lettered { IsLettered (expr_tree value.now) }
-    ensures { result ≡ min (expr_weight (expr_tree value.now)) 10000001 }
+fn expr_weight(whole: Expr<'_>) -> u32
+    ensures { (ws : List (List ℕ)) → result ≡ min (expr_weight (expr_tree ws (numbered whole.entry))) 10000001 }
 {
-    match value {
-        Expr::Name(_) => 0,
-        Expr::Const { .. } | Expr::Place(_) => 1,
-        Expr::Part { .. } => 1,
-        Expr::Index { at, .. } => heavier(1, expr_weight(at)),
-        Expr::Unary(_, a) => heavier(1, expr_weight(a)),
-        Expr::Binary(op, a, b) => {
-            let operands = heavier(expr_weight(a), expr_weight(b));
-            heavier(operator_weight(*op, b), operands)
+    let mut total: u32 = 0;
+    let mut value = whole;
+    'part: loop {
+        match value.root() {
+            Root::Name(_) => return total,
+            Root::Const { .. } | Root::Place(_) | Root::Part { .. } => return heavier(total, 1),
+            Root::Index { at, .. } => {
+                total = heavier(total, 1);
+                value = at;
+            }
+            Root::Unary(_, a) => {
+                total = heavier(total, 1);
+                value = a;
+            }
+            Root::Binary(op, a, b) => {
+                total = heavier(total, heavier(operator_weight(op, b), expr_weight(a)));
+                value = b;
+            }
+            Root::Choose(test, a, b) => {
+                total = heavier(
+                    total,
+                    heavier(1, heavier(expr_weight(test), expr_weight(a))),
+                );
+                value = b;
+            }
+            Root::One(a) => {
+                total = heavier(total, 1);
+                value = a;
+            }
+            Root::More(a, rest) => {
+                total = heavier(total, heavier(1, expr_weight(a)));
+                value = rest;
+            }
         }
-        Expr::Choose(test, a, b) => {
-            let arms = heavier(expr_weight(a), expr_weight(b));
-            heavier(1, heavier(expr_weight(test), arms))
-        }
-        Expr::Concat(parts) => parts_weight(parts),
     }
-}
-
-/// One for each part, beside the weights of the parts.
-#[cycle(weigh)]
-fn parts_weight(parts: &[Expr]) -> u32
-    requires lettered { AllByRecursion IsLettered (map expr_tree parts.now) }
-    ensures { result ≡ min (sum_by (λ e. 1 + expr_weight e) (map expr_tree parts.now)) 10000001 }
-{
-    let mut total = 0;
-    for part in parts {
-        total = heavier(total, heavier(1, expr_weight(part)));
-    }
-    total
 }
 
 /// The weight of a statement with so many `if` round it, which counts them once for each assignment.
 #[cycle(weigh_stmt)]
-fn stmt_weight(ifs: u32, stmt: &Stmt) -> u32
-    requires lettered { IsLetteredStmt (stmt_tree stmt.now) }
-    ensures { result ≡ min (stmt_weight ifs (stmt_tree stmt.now)) 10000001 }
+fn stmt_weight(ifs: u32, whole: Stmt<'_>) -> u32
+    ensures { (ws : List (List ℕ)) → result ≡ min (stmt_weight ifs (stmt_tree ws (numbered_stmt whole.entry))) 10000001 }
 {
-    match stmt {
-        Stmt::Set { value, .. } => heavier(heavier(1, ifs), expr_weight(value)),
-        Stmt::Put { at, value, .. } => {
-            heavier(
-                heavier(1, ifs),
-                heavier(expr_weight(at), expr_weight(value)),
-            )
+    let mut total: u32 = 0;
+    let mut stmt = whole;
+    'stmt: loop {
+        match stmt.root() {
+            StmtRoot::Set { value, .. } => return heavier(
+                total,
+                heavier(heavier(1, ifs), expr_weight(value)),
+            ),
+            StmtRoot::Put { at, value, .. } => {
+                let parts = heavier(expr_weight(at), expr_weight(value));
+                return heavier(total, heavier(heavier(1, ifs), parts));
+            }
+            StmtRoot::When(test, then) => {
+                let taken = stmt_weight(heavier(ifs, 1), then);
+                return heavier(total, heavier(1, heavier(expr_weight(test), taken)));
+            }
+            StmtRoot::Either(test, then, otherwise) => {
+                let taken = stmt_weight(heavier(ifs, 1), then);
+                let other = stmt_weight(heavier(ifs, 1), otherwise);
+                return heavier(
+                    total,
+                    heavier(1, heavier(expr_weight(test), heavier(taken, other))),
+                );
+            }
+            StmtRoot::End => return total,
+            StmtRoot::Then(first, rest) => {
+                total = heavier(total, stmt_weight(ifs, first));
+                stmt = rest;
+            }
         }
-        Stmt::If {
-            test,
-            yes,
-            no: None,
-        } => {
-            let taken = stmt_weight(heavier(ifs, 1), yes);
-            heavier(1, heavier(expr_weight(test), taken))
-        }
-        Stmt::If {
-            test,
-            yes,
-            no: Some(no),
-        } => {
-            let taken = stmt_weight(heavier(ifs, 1), yes);
-            let otherwise = stmt_weight(heavier(ifs, 1), no);
-            heavier(1, heavier(expr_weight(test), heavier(taken, otherwise)))
-        }
-        Stmt::Block(stmts) => stmts_weight(ifs, stmts),
     }
-}
-
-#[cycle(weigh_stmt)]
-fn stmts_weight(ifs: u32, stmts: &[Stmt]) -> u32
-    requires lettered { AllByRecursion IsLetteredStmt (map stmt_tree stmts.now) }
-    ensures { result ≡ min (sum_by (stmt_weight ifs) (map stmt_tree stmts.now)) 10000001 }
-{
-    let mut total = 0;
-    for stmt in stmts {
-        total = heavier(total, stmt_weight(ifs, stmt));
-    }
-    total
 }
 
 fn drives_weight(drives: &[Drive]) -> u32
-    requires lettered { AllByRecursion IsLetteredDrive (map drive_tree drives.now) }
-    ensures { result ≡ min (sum_by drive_weight (map drive_tree drives.now)) 10000001 }
+    ensures { (ws : List (List ℕ)) → result ≡ min (sum_by drive_weight (map (drive_tree ws) drives.now)) 10000001 }
 {
-    let mut total = 0;
-    for drive in drives {
-        total = heavier(total, heavier(1, expr_weight(&drive.value)));
+    let mut total: u32 = 0;
+    'drive: for drive in drives {
+        total = heavier(total, heavier(1, expr_weight(drive.value.expr())));
     }
     total
 }
 
 fn item_weight(item: &VItem) -> u32
-    requires lettered { IsLetteredItem (item_tree item.now) }
-    ensures { result ≡ min (item_weight (item_tree item.now)) 10000001 }
+    ensures { (ws : List (List ℕ)) → result ≡ min (item_weight (item_tree ws item.now)) 10000001 }
 {
     match item {
         VItem::Nets(drives) => drives_weight(drives),
         VItem::Assign(drives) => drives_weight(drives),
-        VItem::Always { body, .. } => stmt_weight(0, body),
+        VItem::Always { body, .. } => stmt_weight(0, body.stmt()),
     }
 }
 
 fn items_weight(items: &[VItem]) -> u32
-    requires lettered { AllByRecursion IsLetteredItem (map item_tree items.now) }
-    ensures { result ≡ min (sum_by item_weight (map item_tree items.now)) 10000001 }
+    ensures { (ws : List (List ℕ)) → result ≡ min (sum_by item_weight (map (item_tree ws) items.now)) 10000001 }
 {
-    let mut total = 0;
-    for item in items {
+    let mut total: u32 = 0;
+    'item: for item in items {
         total = heavier(total, item_weight(item));
     }
     total
 }
 
 /// Whether the weight of the module is above 10,000,000, in time linear in the module.
-pub fn is_large(m: &VModule) -> bool
-    requires lettered { AllByRecursion IsLetteredItem (module_tree m.now).items }
+pub fn is_large(m: &VModule<'_>) -> bool
     ensures { IsTrue result ↔ IsLarge (module_tree m.now) }
 {
     let nets = m.nets.len().min(LARGE as usize) as u32;

@@ -1,16 +1,17 @@
 // Whether constants, selects and concatenations keep their bounds.
 
-ghost use Rattle.std.specs.Prelude.{ℕ, ◌≡◌, ◌<◌, ◌^◌, ◌||◌, if◌then◌else◌, true, false, length, map, min, nat_lt, sum_by, IfNone, IfSome};
-ghost use Rattle.std.specs.List.{list_any, AllByRecursion};
-ghost use Rattle.ae_vread.specs.View.{expr_tree, stmt_tree, drive_tree, net_tree, item_tree};
-ghost use Rattle.ae_judge.specs.Shape.{IsLettered, IsLetteredStmt, IsLetteredDrive, IsLetteredItem};
+ghost use Rattle.std.specs.Prelude.{ℕ, List, ◌≡◌, ◌+◌, ◌<◌, ◌≤◌, ◌^◌, ◌||◌, if◌then◌else◌, true, false, length, map, min, nat_lt, IfNone, IfSome};
+ghost use Rattle.std.specs.List.{list_any};
+ghost use Rattle.ae_vread.specs.View.{drive_tree, expr_tree, item_tree, net_tree, stmt_tree, word_at};
+ghost use Rattle.ae_vread.specs.Roots.{numbered, numbered_stmt};
 ghost use Rattle.ae_judge.specs.Widths.{declared_width, own_width, unary_width, binary_width};
 ghost use Rattle.ae_judge.specs.Faults.{is_outside, is_too_wide, is_too_wide_in_stmt, is_too_wide_in_drive, is_too_wide_in_item, is_too_large};
 ghost use Rattle.ae_judge.specs.Names.{is_memory_name};
+ghost use Rattle.ae_vread.specs.ModuleTree.{concat_more};
 ghost use Rattle.ae_judge.specs.Judging.{first_from, first_too_large};
 
 use crate::names::{Names, depth_of_kind};
-use ae_vread::{BinOp, Drive, Expr, Stmt, UnOp, VItem, VNet};
+use ae_vread::{BinOp, Drive, Expr, Root, Stmt, StmtRoot, UnOp, VItem, VNet};
 
 /// The own width of a prefix whose operand has this.
 fn unary_width(op: UnOp, a: u32) -> u32
@@ -49,25 +50,25 @@ fn may_reach(depth: u32, index_width: u32) -> bool
 
 /// Whether an index of the name, of so many bits by itself, may lie outside: of a bit, of its width; of a word of a memory,
 /// of its depth.
-fn is_outside(names: &Names<'_>, name: &str, at: &Expr, index_width: u32) -> bool
-    requires { min (own_width names.now (expr_tree at.now)) 65 ≡ index_width }
-    ensures { result ≡ is_outside names.now name.now (expr_tree at.now) }
+fn is_outside(names: &Names<'_>, name: u32, at: Expr<'_>, index_width: u32) -> bool
+    requires { min (own_width names.now.nets (expr_tree names.now.words (numbered at))) 65 ≡ index_width }
+    ensures { result ≡ is_outside names.now.nets (word_at names.now.words name) (expr_tree names.now.words (numbered at.entry)) }
 {
     let is_memory = names.is_memory(name);
-    if let Expr::Place(place) = at {
+    if let Root::Place(place) = at.root() {
         let bound = if is_memory {
             names.depth(name)
         } else {
             names.width(name)
         };
-        return bound <= *place;
+        return bound <= place;
     }
     is_memory && may_reach(names.depth(name), index_width)
 }
 
 /// The own width of one bit or one word of a name.
-fn element_width(names: &Names<'_>, name: &str) -> u32
-    ensures { result ≡ min (if is_memory_name names.now name.now then declared_width names.now name.now else 1) 65 }
+fn element_width(names: &Names<'_>, name: u32) -> u32
+    ensures { result ≡ min (if is_memory_name names.now.nets (word_at names.now.words name) then declared_width names.now.nets (word_at names.now.words name) else 1) 65 }
 {
     if names.is_memory(name) {
         names.width(name).min(65)
@@ -79,77 +80,95 @@ fn element_width(names: &Names<'_>, name: &str) -> u32
 /// The own width of an expression in bits, where one above 64 is 65; none where in it a constant does not fit, a select or
 /// an index may lie outside, or a concatenation has more than 64 bits.
 #[cycle(wide)]
-fn width_within(names: &Names<'_>, value: &Expr) -> Option<u32>
-    requires lettered { IsLettered (expr_tree value.now) }
-    ensures none { IfNone result (is_too_wide names.now (expr_tree value.now) ≡ true) }
-    ensures some { IfSome result (λ w. is_too_wide names.now (expr_tree value.now) ≡ false) }
-    ensures width { IfSome result (λ w. min (own_width names.now (expr_tree value.now)) 65 ≡ w) }
+fn width_within(names: &Names<'_>, value: Expr<'_>) -> Option<u32>
+    ensures none { IfNone result (is_too_wide names.now.nets (expr_tree names.now.words (numbered value.entry)) ≡ true) }
+    ensures some { IfSome result (λ w. is_too_wide names.now.nets (expr_tree names.now.words (numbered value.entry)) ≡ false) }
+    ensures width { IfSome result (λ w. min (own_width names.now.nets (expr_tree names.now.words (numbered value.entry))) 65 ≡ w) }
 {
-    match value {
-        Expr::Name(name) => Some(names.width(name.as_str()).min(65)),
-        Expr::Const { size, fits, .. } => {
-            if !*fits {
+    match value.root() {
+        Root::Name(name) => Some(names.width(name).min(65)),
+        Root::Const { size, fits, .. } => {
+            if !fits {
                 return None;
             }
-            Some((*size).min(65))
+            Some(u32::from(size).min(65))
         }
-        Expr::Place(_) => Some(0),
-        Expr::Part { name, high, low } => {
-            if *high < *low || names.width(name.as_str()) <= *high {
+        Root::Place(_) => Some(0),
+        Root::Part { name, high, low } => {
+            if high < low || names.width(name) <= high {
                 return None;
             }
-            Some((*high - *low).min(64) + 1)
+            Some((high - low).min(64) + 1)
         }
-        Expr::Index { name, at } => {
+        Root::Index { name, at } => {
             let index_width = width_within(names, at)?;
-            if is_outside(names, name.as_str(), at, index_width) {
+            if is_outside(names, name, at, index_width) {
                 return None;
             }
-            Some(element_width(names, name.as_str()))
+            Some(element_width(names, name))
         }
-        Expr::Unary(op, a) => {
+        Root::Unary(op, a) => {
             let own = width_within(names, a)?;
-            Some(unary_width(*op, own))
+            Some(unary_width(op, own))
         }
-        Expr::Binary(op, a, b) => {
+        Root::Binary(op, a, b) => {
             let left = width_within(names, a)?;
             let right = width_within(names, b)?;
-            Some(binary_width(*op, left, right))
+            Some(binary_width(op, left, right))
         }
-        Expr::Choose(test, a, b) => {
+        Root::Choose(test, a, b) => {
             let _test = width_within(names, test)?;
             let left = width_within(names, a)?;
             let right = width_within(names, b)?;
             Some(left.max(right))
         }
-        Expr::Concat(parts) => total_within(names, parts),
+        Root::One(a) => {
+            let own = width_within(names, a)?;
+            sum_within(own, 0)
+        }
+        Root::More(a, rest) => total_within(names, a, rest),
     }
 }
 
-/// The sum of the own widths of parts; none where there is none of a part, or the sum is above 64.
+/// The sum of the own widths of the parts of a concatenation; none where there is none of a part, or the sum is above 64.
 #[cycle(wide)]
-fn total_within(names: &Names<'_>, parts: &[Expr]) -> Option<u32>
-    requires lettered { AllByRecursion IsLettered (map expr_tree parts.now) }
-    ensures none { IfNone result ((list_any (is_too_wide names.now) (map expr_tree parts.now) || nat_lt 64 (sum_by (own_width names.now) (map expr_tree parts.now))) ≡ true) }
-    ensures some { IfSome result (λ w. (list_any (is_too_wide names.now) (map expr_tree parts.now) || nat_lt 64 (sum_by (own_width names.now) (map expr_tree parts.now))) ≡ false) }
-    ensures width { IfSome result (λ w. min (sum_by (own_width names.now) (map expr_tree parts.now)) 65 ≡ w) }
+fn total_within(names: &Names<'_>, first: Expr<'_>, rest: Expr<'_>) -> Option<u32>
+    ensures none { IfNone result (is_too_wide names.now.nets (concat_more (expr_tree names.now.words (numbered first.entry)) (expr_tree names.now.words (numbered rest.entry))) ≡ true) }
+    ensures some { IfSome result (λ w. is_too_wide names.now.nets (concat_more (expr_tree names.now.words (numbered first.entry)) (expr_tree names.now.words (numbered rest.entry))) ≡ false) }
+    ensures width { IfSome result (λ w. min (own_width names.now.nets (concat_more (expr_tree names.now.words (numbered first.entry)) (expr_tree names.now.words (numbered rest.entry)))) 65 ≡ w) }
 {
-    let mut total: u32 = 0;
-    for part in parts {
-        let own = width_within(names, part)?;
-        total = (total + own).min(65);
+    let mut total = width_within(names, first)?;
+    let mut parts = rest;
+    'part: loop {
+        match parts.root() {
+            Root::More(part, more) => {
+                let own = width_within(names, part)?;
+                total = (total + own).min(65);
+                parts = more;
+            }
+            _ => {
+                let last = width_within(names, parts)?;
+                return sum_within(total, last);
+            }
+        }
     }
-    if total > 64 {
-        return None;
-    }
-    Some(total)
+}
+
+/// The sum of two widths, where it is at most 64.
+fn sum_within(a: u32, b: u32) -> Option<u32>
+    requires a { a ≤ 65 }
+    requires b { b ≤ 65 }
+    ensures none { IfNone result (64 < a + b) }
+    ensures some { IfSome result (λ w. (w ≡ a + b) × (w ≤ 64)) }
+{
+    let sum = a + b;
+    if sum > 64 { None } else { Some(sum) }
 }
 
 /// Whether in the expression a constant does not fit, a select or an index may lie outside, or a concatenation has more
 /// than 64 bits.
-pub fn is_too_wide(names: &Names<'_>, value: &Expr) -> bool
-    requires lettered { IsLettered (expr_tree value.now) }
-    ensures { result ≡ is_too_wide names.now (expr_tree value.now) }
+pub fn is_too_wide(names: &Names<'_>, value: Expr<'_>) -> bool
+    ensures { result ≡ is_too_wide names.now.nets (expr_tree names.now.words (numbered value.entry)) }
 {
     match width_within(names, value) {
         Some(_) => false,
@@ -158,10 +177,8 @@ pub fn is_too_wide(names: &Names<'_>, value: &Expr) -> bool
 }
 
 /// Whether the index or the value of an assignment to a word of a memory is so, or the index may lie outside.
-fn is_too_wide_put(names: &Names<'_>, name: &str, at: &Expr, value: &Expr) -> bool
-    requires at { IsLettered (expr_tree at.now) }
-    requires value { IsLettered (expr_tree value.now) }
-    ensures { result ≡ (is_too_wide names.now (expr_tree at.now) || (is_outside names.now name.now (expr_tree at.now) || is_too_wide names.now (expr_tree value.now))) }
+fn is_too_wide_put(names: &Names<'_>, name: u32, at: Expr<'_>, value: Expr<'_>) -> bool
+    ensures { result ≡ (is_too_wide names.now.nets (expr_tree names.now.words (numbered at.entry)) || (is_outside names.now.nets (word_at names.now.words name) (expr_tree names.now.words (numbered at.entry)) || is_too_wide names.now.nets (expr_tree names.now.words (numbered value.entry)))) }
 {
     match width_within(names, at) {
         Some(index_width) => {
@@ -172,50 +189,42 @@ fn is_too_wide_put(names: &Names<'_>, name: &str, at: &Expr, value: &Expr) -> bo
 }
 
 #[cycle(wide_stmt)]
-pub fn is_too_wide_in_stmt(names: &Names<'_>, stmt: &Stmt) -> bool
-    requires lettered { IsLetteredStmt (stmt_tree stmt.now) }
-    ensures { result ≡ is_too_wide_in_stmt names.now (stmt_tree stmt.now) }
+pub fn is_too_wide_in_stmt(names: &Names<'_>, whole: Stmt<'_>) -> bool
+    ensures { result ≡ is_too_wide_in_stmt names.now.nets (stmt_tree names.now.words (numbered_stmt whole.entry)) }
 {
-    match stmt {
-        Stmt::Set { value, .. } => is_too_wide(names, value),
-        Stmt::Put { name, at, value } => is_too_wide_put(names, name.as_str(), at, value),
-        Stmt::If {
-            test,
-            yes,
-            no: None,
-        } => { is_too_wide(names, test) || is_too_wide_in_stmt(names, yes) }
-        Stmt::If {
-            test,
-            yes,
-            no: Some(no),
-        } => {
-            is_too_wide(names, test)
-                || is_too_wide_in_stmt(names, yes)
-                || is_too_wide_in_stmt(names, no)
-        }
-        Stmt::Block(stmts) => any_too_wide_stmt(names, stmts),
-    }
-}
-
-#[cycle(wide_stmt)]
-fn any_too_wide_stmt(names: &Names<'_>, stmts: &[Stmt]) -> bool
-    requires lettered { AllByRecursion IsLetteredStmt (map stmt_tree stmts.now) }
-    ensures { result ≡ list_any (is_too_wide_in_stmt names.now) (map stmt_tree stmts.now) }
-{
-    for stmt in stmts {
-        if is_too_wide_in_stmt(names, stmt) {
-            return true;
+    let mut stmt = whole;
+    'stmt: loop {
+        match stmt.root() {
+            StmtRoot::Set { value, .. } => return is_too_wide(names, value),
+            StmtRoot::Put { name, at, value } => return is_too_wide_put(names, name, at, value),
+            StmtRoot::When(test, then) => {
+                if is_too_wide(names, test) {
+                    return true;
+                }
+                stmt = then;
+            }
+            StmtRoot::Either(test, then, otherwise) => {
+                if is_too_wide(names, test) || is_too_wide_in_stmt(names, then) {
+                    return true;
+                }
+                stmt = otherwise;
+            }
+            StmtRoot::End => return false,
+            StmtRoot::Then(first, rest) => {
+                if is_too_wide_in_stmt(names, first) {
+                    return true;
+                }
+                stmt = rest;
+            }
         }
     }
-    false
 }
 
 pub fn any_too_wide_drive(names: &Names<'_>, drives: &[Drive]) -> bool
-    requires lettered { AllByRecursion IsLetteredDrive (map drive_tree drives.now) }
-    ensures { result ≡ list_any (is_too_wide_in_drive names.now) (map drive_tree drives.now) }
+    ensures { result ≡ list_any (is_too_wide_in_drive names.now.nets) (map (drive_tree names.now.words) drives.now) }
 {
-    for drive in drives {
-        if is_too_wide(names, &drive.value) {
+    'drive: for drive in drives {
+        if is_too_wide(names, drive.value.expr()) {
             return true;
         }
     }
@@ -224,16 +233,16 @@ pub fn any_too_wide_drive(names: &Names<'_>, drives: &[Drive]) -> bool
 
 /// Whether a name is wider than 64 bits or a memory deeper than 65,536 words.
 fn is_too_large(net: &VNet) -> bool
-    ensures { result ≡ is_too_large (net_tree net.now) }
+    ensures { (ws : List (List ℕ)) → result ≡ is_too_large (net_tree ws net.now) }
 {
     net.width > 64 || depth_of_kind(net.kind) > 65536
 }
 
 /// The item of the first net that is.
-pub fn first_too_large(nets: &[VNet]) -> Option<u32>
-    ensures { result ≡ first_too_large (map net_tree nets.now) }
+pub fn first_too_large(names: &Names<'_>, nets: &[VNet]) -> Option<u32>
+    ensures { result ≡ first_too_large (map (net_tree names.now.words) nets.now) }
 {
-    for net in nets {
+    'net: for net in nets {
         if is_too_large(net) {
             return Some(net.item);
         }
@@ -242,24 +251,22 @@ pub fn first_too_large(nets: &[VNet]) -> Option<u32>
 }
 
 fn is_too_wide_in_item(names: &Names<'_>, item: &VItem) -> bool
-    requires lettered { IsLetteredItem (item_tree item.now) }
-    ensures { result ≡ is_too_wide_in_item names.now (item_tree item.now) }
+    ensures { result ≡ is_too_wide_in_item names.now.nets (item_tree names.now.words item.now) }
 {
     match item {
         VItem::Nets(drives) => any_too_wide_drive(names, drives),
         VItem::Assign(drives) => any_too_wide_drive(names, drives),
-        VItem::Always { body, .. } => is_too_wide_in_stmt(names, body),
+        VItem::Always { body, .. } => is_too_wide_in_stmt(names, body.stmt()),
     }
 }
 
 /// The number of the first item in which a constant, a select or a concatenation is out of its bounds.
 pub fn first_too_wide(names: &Names<'_>, items: &[VItem]) -> Option<u32>
     requires few { length items.now < 2 ^ 32 }
-    requires lettered { AllByRecursion IsLetteredItem (map item_tree items.now) }
-    ensures { result ≡ first_from (λ _. is_too_wide_in_item names.now) 1 (map item_tree items.now) }
+    ensures { result ≡ first_from (λ _. is_too_wide_in_item names.now.nets) 1 (map (item_tree names.now.words) items.now) }
 {
     let mut number: u32 = 0;
-    for item in items {
+    'item: for item in items {
         number += 1;
         if is_too_wide_in_item(names, item) {
             return Some(number);

@@ -1,5 +1,4 @@
 pub mod Answered
-pub mod Constants
 pub mod DriveLaws
 pub mod SoundLaws
 pub mod SoundOf

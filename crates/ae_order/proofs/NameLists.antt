@@ -1,9 +1,9 @@
 -- The names that lists of expressions read, and lists of equations.
+use Rattle.std.proofs.lemmas.List.{map-append}
 use Rattle.std.proofs.Common.{ℕ, zero, suc, ◌≡◌, ◌+◌, ◌<◌, ◌≤◌, List, [], ◌∷◌, ◌++◌, length, map, take, set, replicate, Option, Some, None, slice_get, refl, sym, ap, ◌∙◌, arith, append_assoc, append-nil, add-one, inl, inr, IfSome, length-append}
 use Rattle.std.specs.Prelude.{flat_map, option_map}
 use Rattle.std.proofs.lemmas.Bool.{cases_lt}
 use Rattle.ae_vread.specs.ModuleTree.{ExprTree, NetTree, DriveTree, ItemTree, ModuleTree}
-use Rattle.ae_vread.specs.Reading.{concat_of, concat_behind}
 use Rattle.ae_judge.specs.Names.{names_in, drives_of, equations}
 use Rattle.ae_runs.specs.Named.{place_of}
 use Rattle.ae_order.specs.Drives.{IsFlat, noted, places_in, read_before, with_drive}
@@ -27,14 +27,6 @@ more_names f old held new ps i x h n t =
     n ∙ ap (λ xs. xs ++ map f (names_in x)) h ∙ append_assoc old (map f (flat_map names_in (take i ps))) (map f (names_in x))
     ∙ ap (λ xs. old ++ xs) (sym (map_join f (flat_map names_in (take i ps)) (names_in x)) ∙ ap (map f) (sym (flat_push names_in (take i ps) x)) ∙
     ap (λ qs. map f (flat_map names_in qs)) (sym t))
-
-names_behind : (p : ExprTree) (ps : List ExprTree) → names_in (concat_behind p ps) ≡ flat_map names_in (p ∷ ps)
-names_behind p [] = sym (append-nil (names_in p))
-names_behind p (q ∷ ps) = ap (λ ns. names_in p ++ ns) (names_behind q ps)
-
-pub parts_names : (ps : List ExprTree) → 1 ≤ length ps → names_in (concat_of ps) ≡ flat_map names_in ps
-parts_names [] l = absurd (omega arith)
-parts_names (p ∷ ps) l = names_behind p ps
 
 -- one equation more
 pub more_noted : (ns : List NetTree) (vs held : List (Option ExprTree)) (ds : List DriveTree) (i p : ℕ) (d : DriveTree) → held ≡ noted ns vs (take i ds)
@@ -119,3 +111,9 @@ module _ (ns : List NetTree) (vs : List (Option ExprTree)) where
         at = r.1;
         all = h.all ∙ ap (flat_map (places_in ns)) (take_whole vs k end ∙ sym (take_whole vs (k + 1) (omega arith)));
       }
+
+-- the names of one part, and then those of what is left
+pub more_places : (f : List ℕ → ℕ) (before after all : List ℕ) (xs ys : List (List ℕ)) → after ≡ before ++ map f xs → before ++ map f (xs ++ ys) ≡ all
+    → after ++ map f ys ≡ all
+more_places f before after all xs ys pushed h =
+    ap (λ l. l ++ map f ys) pushed ∙ append_assoc before (map f xs) (map f ys) ∙ ap (λ l. before ++ l) (sym (map-append f xs ys)) ∙ h

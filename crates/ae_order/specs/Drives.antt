@@ -1,5 +1,5 @@
 -- The equations of a module's wires by the places of their names, and the graph of what they read.
-use Rattle.std.specs.Prelude.{◌≡◌, ℕ, ◌<◌, List, [], ◌∷◌, length, Option, Some, None, slice_get, slice_set, replicate, take, map, flat_map}
+use Rattle.std.specs.Prelude.{◌≡◌, ℕ, ◌<◌, List, [], ◌∷◌, length, Option, Some, None, slice_get, slice_set, replicate, take, map, flat_map, option_map}
 use Rattle.ae_vread.specs.ModuleTree.{ExprTree, NetTree, DriveTree, ModuleTree}
 use Rattle.ae_judge.specs.Names.{names_in, equations}
 use Rattle.ae_judge.specs.Faults.{HasLoop, NetAt, Feeds}
@@ -7,6 +7,13 @@ use Rattle.ae_runs.specs.Named.{IsNamed, place_of}
 use Rattle.ae_order.specs.Sound.{IsSound}
 use Rattle.ae_order.specs.declared.sort.OrderFault.{OrderFault}
 use Rattle.ae_order.specs.declared.sort.OrderFault.TheVariants.{Loop, Memory}
+use Rattle.ae_vread.specs.Roots.{numbered}
+use Rattle.ae_vread.specs.View.{expr_tree}
+use Rattle.ae_vread.specs.declared.symbols.Expr.{Expr}
+
+-- the value of an equation, if there is one, with its names
+abbrev pub value_tree : List (List ℕ) → Option Expr → Option ExprTree
+value_tree ws v = option_map (λ (e : Expr). expr_tree ws (numbered e)) v
 
 -- with the value of an equation at the place of its name
 abbrev pub with_drive : List NetTree → List (Option ExprTree) → DriveTree → List (Option ExprTree)

@@ -1,39 +1,40 @@
 // The order of the wires of a module.
 
-ghost use Rattle.std.specs.Prelude.{◌≡◌, ◌<◌, ◌^◌, ◌++◌, ◌+◌, ◌∷◌, [], IfErr, IfOk, IfSome, OnOk, None, length, map, option_map, replicate};
-ghost use Rattle.ae_vread.specs.View.{drive_tree, expr_tree, item_tree, module_tree};
-ghost use Rattle.ae_vread.specs.Reading.{concat_of};
+ghost use Rattle.std.specs.Prelude.{ℕ, List, ◌≡◌, ◌<◌, ◌^◌, ◌++◌, ◌+◌, ◌∷◌, [], IfErr, IfOk, IfSome, OnOk, None, length, map, replicate};
+ghost use Rattle.ae_vread.specs.Roots.{numbered};
+ghost use Rattle.ae_vread.specs.View.{drive_tree, expr_tree, item_tree, module_tree, word_at};
 ghost use Rattle.ae_judge.specs.Names.{drives_of, names_in};
 ghost use Rattle.ae_judge.specs.Faults.{HasLoop, IsFault, IsWellFormed, Never};
 ghost use Rattle.ae_judge.specs.Shape.{IsShapely};
 ghost use Rattle.ae_judge.specs.Regular.{IsRegular};
 ghost use Rattle.ae_runs.specs.Named.{IsNamed, place_of};
 ghost use Rattle.ae_order.specs.Sound.{IsSound};
-ghost use Rattle.ae_order.specs.Drives.{AreDriven, AreSoundValues, IsFlat, IsLoopFault, IsWireOrder, noted, places_in, values_of};
+ghost use Rattle.ae_order.specs.Drives.{AreDriven, AreSoundValues, IsFlat, IsLoopFault, IsWireOrder, noted, places_in, value_tree, values_of};
+ghost use Rattle.ae_judge.specs.Table.{table_of};
 
 use crate::places::{place_number, place_of};
 use crate::sort::{OrderFault, order};
 use ae_judge::{ElabFault, Names, is_large};
-use ae_vread::{Drive, Expr, VItem, VModule};
+use ae_vread::{Drive, Expr, Root, VItem, VModule};
 use std::alloc::{AllocError, Global};
 
 /// Notes the value of each equation at the place of its name.
-fn note_drives<'m>(names: &Names<'_>, drives: &'m [Drive], values: &mut Vec<Option<&'m Expr>>)
-    requires driven { AreDriven names.now (map drive_tree drives.now) }
-    requires long { length values.old.items ≡ length names.now }
-    ensures long { length values.new.items ≡ length names.now }
-    ensures noted { map (λ v. option_map (λ e. expr_tree e.now) v) values.new.items ≡ noted names.now (map (λ v. option_map (λ e. expr_tree e.now) v) values.old.items) (map drive_tree drives.now) }
+fn note_drives<'m>(names: &Names<'_>, drives: &'m [Drive], values: &mut Vec<Option<Expr<'m>>>)
+    requires driven { AreDriven names.now.nets (map (drive_tree names.now.words) drives.now) }
+    requires long { length values.old.items ≡ length names.now.nets }
+    ensures long { length values.new.items ≡ length names.now.nets }
+    ensures noted { map (value_tree names.now.words) values.new.items ≡ noted names.now.nets (map (value_tree names.now.words) values.old.items) (map (drive_tree names.now.words) drives.now) }
 {
-    for drive in drives {
-        values[place_of(names, drive.name.as_str())] = Some(&drive.value);
+    'drive: for drive in drives {
+        values[place_of(names, drive.name)] = Some(drive.value.expr());
     }
 }
 
 /// Adds the place of a name.
-fn add_name(names: &Names<'_>, name: &str, targets: &mut Vec<u32>) -> Result<(), AllocError>
-    requires few { length names.now < 2 ^ 32 }
-    requires named { IsNamed names.now name.now }
-    ensures { OnOk result (targets.new.items ≡ targets.old.items ++ place_of names.now name.now ∷ []) }
+fn add_name(names: &Names<'_>, name: u32, targets: &mut Vec<u32>) -> Result<(), AllocError>
+    requires few { length names.now.nets < 2 ^ 32 }
+    requires named { IsNamed names.now.nets (word_at names.now.words name) }
+    ensures { OnOk result (targets.new.items ≡ targets.old.items ++ place_of names.now.nets (word_at names.now.words name) ∷ []) }
 {
     targets.push(place_of(names, name) as u32)?;
     Ok(())
@@ -41,59 +42,51 @@ fn add_name(names: &Names<'_>, name: &str, targets: &mut Vec<u32>) -> Result<(),
 
 /// Adds the places of the names that an expression reads.
 #[cycle(reading)]
-fn add_names(names: &Names<'_>, e: &Expr, targets: &mut Vec<u32>) -> Result<(), AllocError>
-    requires few { length names.now < 2 ^ 32 }
-    requires sound { IsSound names.now (expr_tree e.now) }
-    ensures { OnOk result (targets.new.items ≡ targets.old.items ++ map (place_of names.now) (names_in (expr_tree e.now))) }
+fn add_names(names: &Names<'_>, whole: Expr<'_>, targets: &mut Vec<u32>) -> Result<(), AllocError>
+    requires few { length names.now.nets < 2 ^ 32 }
+    requires sound { IsSound names.now.nets (expr_tree names.now.words (numbered whole)) }
+    ensures { OnOk result (targets.new.items ≡ targets.old.items ++ map (place_of names.now.nets) (names_in (expr_tree names.now.words (numbered whole.entry)))) }
 {
-    match e {
-        Expr::Name(name) => add_name(names, name, targets),
-        Expr::Const { .. } => Ok(()),
-        Expr::Place(_) => Ok(()),
-        Expr::Part { name, .. } => add_name(names, name, targets),
-        Expr::Index { name, at } => {
-            add_name(names, name, targets)?;
-            match place_number(at) {
-                Some(_) => Ok(()),
-                None => add_names(names, at, targets),
+    let mut value = whole;
+    'part: loop {
+        match value.root() {
+            Root::Name(name) | Root::Part { name, .. } => return add_name(names, name, targets),
+            Root::Const { .. } | Root::Place(_) => return Ok(()),
+            Root::Index { name, at } => {
+                add_name(names, name, targets)?;
+                match place_number(at) {
+                    Some(_) => return Ok(()),
+                    None => value = at,
+                }
+            }
+            Root::Unary(_, a) => value = a,
+            Root::Binary(_, a, b) => {
+                add_names(names, a, targets)?;
+                value = b;
+            }
+            Root::Choose(test, a, b) => {
+                add_names(names, test, targets)?;
+                add_names(names, a, targets)?;
+                value = b;
+            }
+            Root::One(a) => value = a,
+            Root::More(a, rest) => {
+                add_names(names, a, targets)?;
+                value = rest;
             }
         }
-        Expr::Unary(_, a) => add_names(names, a, targets),
-        Expr::Binary(_, a, b) => {
-            add_names(names, a, targets)?;
-            add_names(names, b, targets)
-        }
-        Expr::Choose(test, a, b) => {
-            add_names(names, test, targets)?;
-            add_names(names, a, targets)?;
-            add_names(names, b, targets)
-        }
-        Expr::Concat(parts) => add_parts(names, parts, targets),
     }
-}
-
-/// The same for each part of a concatenation.
-#[cycle(reading)]
-fn add_parts(names: &Names<'_>, parts: &[Expr], targets: &mut Vec<u32>) -> Result<(), AllocError>
-    requires few { length names.now < 2 ^ 32 }
-    requires sound { IsSound names.now (concat_of (map expr_tree parts.now)) }
-    ensures { OnOk result (targets.new.items ≡ targets.old.items ++ map (place_of names.now) (names_in (concat_of (map expr_tree parts.now)))) }
-{
-    for part in parts {
-        add_names(names, part, targets)?;
-    }
-    Ok(())
 }
 
 /// Adds the places that the value of an equation reads.
 fn add_value(
     names: &Names<'_>,
-    value: Option<&Expr>,
+    value: Option<Expr<'_>>,
     targets: &mut Vec<u32>,
 ) -> Result<(), AllocError>
-    requires few { length names.now < 2 ^ 32 }
-    requires sound { IfSome value (λ e. IsSound names.now (expr_tree e.now)) }
-    ensures { OnOk result (targets.new.items ≡ targets.old.items ++ places_in names.now (option_map (λ e. expr_tree e.now) value.entry)) }
+    requires few { length names.now.nets < 2 ^ 32 }
+    requires sound { IfSome value (λ e. IsSound names.now.nets (expr_tree names.now.words (numbered e))) }
+    ensures { OnOk result (targets.new.items ≡ targets.old.items ++ places_in names.now.nets (value_tree names.now.words value.entry)) }
 {
     match value {
         Some(e) => add_names(names, e, targets),
@@ -108,14 +101,18 @@ struct Graph {
     targets: Vec<u32>,
 }
 
-fn graph_of(alloc: Global, names: &Names<'_>, values: &[Option<&Expr>]) -> Result<Graph, AllocError>
-    requires few { length names.now < 2 ^ 32 }
-    requires sound { AreSoundValues names.now (map (λ v. option_map (λ e. expr_tree e.now) v) values.now) }
-    ensures { IfOk result (λ g. IsFlat names.now (map (λ v. option_map (λ e. expr_tree e.now) v) values.now) (length values.now + 1) g.starts.items g.targets.items) }
+fn graph_of(
+    alloc: Global,
+    names: &Names<'_>,
+    values: &[Option<Expr<'_>>],
+) -> Result<Graph, AllocError>
+    requires few { length names.now.nets < 2 ^ 32 }
+    requires sound { AreSoundValues names.now.nets (map (value_tree names.now.words) values.now) }
+    ensures { IfOk result (λ g. IsFlat names.now.nets (map (value_tree names.now.words) values.now) (length values.now + 1) g.starts.items g.targets.items) }
 {
     let mut starts = Vec::new(alloc);
     let mut targets = Vec::new(alloc);
-    for value in values {
+    'value: for value in values {
         starts.push(targets.len())?;
         add_value(names, *value, &mut targets)?;
     }
@@ -124,11 +121,11 @@ fn graph_of(alloc: Global, names: &Names<'_>, values: &[Option<&Expr>]) -> Resul
 }
 
 /// The values of the equations of one item.
-fn note_item<'m>(names: &Names<'_>, item: &'m VItem, values: &mut Vec<Option<&'m Expr>>)
-    requires driven { AreDriven names.now (drives_of (item_tree item.now)) }
-    requires long { length values.old.items ≡ length names.now }
-    ensures long { length values.new.items ≡ length names.now }
-    ensures noted { map (λ v. option_map (λ e. expr_tree e.now) v) values.new.items ≡ noted names.now (map (λ v. option_map (λ e. expr_tree e.now) v) values.old.items) (drives_of (item_tree item.now)) }
+fn note_item<'m>(names: &Names<'_>, item: &'m VItem, values: &mut Vec<Option<Expr<'m>>>)
+    requires driven { AreDriven names.now.nets (drives_of (item_tree names.now.words item.now)) }
+    requires long { length values.old.items ≡ length names.now.nets }
+    ensures long { length values.new.items ≡ length names.now.nets }
+    ensures noted { map (value_tree names.now.words) values.new.items ≡ noted names.now.nets (map (value_tree names.now.words) values.old.items) (drives_of (item_tree names.now.words item.now)) }
 {
     match item {
         VItem::Nets(drives) => note_drives(names, drives, values),
@@ -138,12 +135,12 @@ fn note_item<'m>(names: &Names<'_>, item: &'m VItem, values: &mut Vec<Option<&'m
 }
 
 /// No value at any of so many places.
-fn no_values<'m>(alloc: Global, count: usize) -> Result<Vec<Option<&'m Expr>>, AllocError>
+fn no_values<'m>(alloc: Global, count: usize) -> Result<Vec<Option<Expr<'m>>>, AllocError>
     ensures long { IfOk result (λ values. length values.items ≡ count) }
-    ensures none { IfOk result (λ values. map (λ v. option_map (λ e. expr_tree e.now) v) values.items ≡ replicate count None) }
+    ensures none { (ws : List (List ℕ)) → IfOk result (λ values. map (value_tree ws) values.items ≡ replicate count None) }
 {
     let mut values = Vec::new(alloc);
-    for _place in 0..count {
+    'place: for _place in 0..count {
         values.push(None)?;
     }
     Ok(values)
@@ -153,15 +150,15 @@ fn no_values<'m>(alloc: Global, count: usize) -> Result<Vec<Option<&'m Expr>>, A
 pub fn drive_values<'m>(
     alloc: Global,
     names: &Names<'_>,
-    m: &'m VModule,
-) -> Result<Vec<Option<&'m Expr>>, AllocError>
-    requires names { names.now ≡ (module_tree m.now).nets }
+    m: &'m VModule<'_>,
+) -> Result<Vec<Option<Expr<'m>>>, AllocError>
+    requires names { names.now ≡ table_of m.now.words m.now.nets.items }
     requires shape { IsShapely (module_tree m.now) }
     requires regular { IsRegular (module_tree m.now) }
-    ensures { IfOk result (λ values. map (λ v. option_map (λ e. expr_tree e.now) v) values.items ≡ values_of (module_tree m.now)) }
+    ensures { IfOk result (λ values. map (value_tree names.now.words) values.items ≡ values_of (module_tree m.now)) }
 {
     let mut values = no_values(alloc, m.nets.len())?;
-    for item in &m.items {
+    'item: for item in &m.items {
         note_item(names, item, &mut values);
     }
     Ok(values)
@@ -172,13 +169,13 @@ pub fn drive_values<'m>(
 fn wire_order(
     alloc: Global,
     names: &Names<'_>,
-    m: &VModule,
-    values: &[Option<&Expr>],
+    m: &VModule<'_>,
+    values: &[Option<Expr<'_>>],
 ) -> Result<Vec<u32>, OrderFault>
-    requires names { names.now ≡ (module_tree m.now).nets }
+    requires names { names.now ≡ table_of m.now.words m.now.nets.items }
     requires shape { IsShapely (module_tree m.now) }
     requires regular { IsRegular (module_tree m.now) }
-    requires values { map (λ v. option_map (λ e. expr_tree e.now) v) values.now ≡ values_of (module_tree m.now) }
+    requires values { map (value_tree names.now.words) values.now ≡ values_of (module_tree m.now) }
     ensures order { IfOk result (λ order. IsWireOrder (module_tree m.now) order.items) }
     ensures no_loop { OnOk result (Never (HasLoop (module_tree m.now))) }
     ensures fault { IfErr result (IsLoopFault (module_tree m.now)) }
@@ -193,13 +190,13 @@ fn wire_order(
 pub fn sorted_wires(
     alloc: Global,
     names: &Names<'_>,
-    m: &VModule,
-    values: &[Option<&Expr>],
+    m: &VModule<'_>,
+    values: &[Option<Expr<'_>>],
 ) -> Result<Vec<u32>, ElabFault>
-    requires names { names.now ≡ (module_tree m.now).nets }
+    requires names { names.now ≡ table_of m.now.words m.now.nets.items }
     requires shape { IsShapely (module_tree m.now) }
     requires regular { IsRegular (module_tree m.now) }
-    requires values { map (λ v. option_map (λ e. expr_tree e.now) v) values.now ≡ values_of (module_tree m.now) }
+    requires values { map (value_tree names.now.words) values.now ≡ values_of (module_tree m.now) }
     ensures sorted { IfOk result (λ order. IsWireOrder (module_tree m.now) order.items) }
     ensures well_formed { OnOk result (IsWellFormed (module_tree m.now)) }
     ensures fault { IfErr result (λ f. IsFault (module_tree m.now) f) }

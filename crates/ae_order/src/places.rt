@@ -1,18 +1,19 @@
 // The places of names, and those that stand as indices.
 
-ghost use Rattle.std.specs.Prelude.{◌≡◌, IfNone, IfSome, false};
+ghost use Rattle.std.specs.Prelude.{ℕ, List, ◌≡◌, IfNone, IfSome, false};
 ghost use Rattle.ae_vread.specs.ModuleTree.{place};
-ghost use Rattle.ae_vread.specs.View.{expr_tree};
+ghost use Rattle.ae_vread.specs.View.{expr_tree, word_at};
+ghost use Rattle.ae_vread.specs.Roots.{numbered};
 ghost use Rattle.ae_judge.specs.Faults.{is_place};
 ghost use Rattle.ae_runs.specs.Named.{IsNamed, place_of};
 
 use ae_judge::Names;
-use ae_vread::Expr;
+use ae_vread::{Expr, Root};
 
 /// The place of a declared name.
-pub fn place_of(names: &Names<'_>, name: &str) -> usize
-    requires named { IsNamed names.now name.now }
-    ensures { result ≡ place_of names.now name.now }
+pub fn place_of(names: &Names<'_>, name: u32) -> usize
+    requires named { IsNamed names.now.nets (word_at names.now.words name) }
+    ensures { result ≡ place_of names.now.nets (word_at names.now.words name) }
 {
     match names.place(name) {
         Some(place) => place,
@@ -21,12 +22,12 @@ pub fn place_of(names: &Names<'_>, name: &str) -> usize
 }
 
 /// The number of a place that stands as an index.
-pub fn place_number(e: &Expr) -> Option<u32>
-    ensures some { IfSome result (λ k. expr_tree e.now ≡ place k) }
-    ensures none { IfNone result (is_place (expr_tree e.now) ≡ false) }
+pub fn place_number(e: Expr<'_>) -> Option<u32>
+    ensures some { (ws : List (List ℕ)) → IfSome result (λ k. expr_tree ws (numbered e.entry) ≡ place k) }
+    ensures none { (ws : List (List ℕ)) → IfNone result (is_place (expr_tree ws (numbered e.entry)) ≡ false) }
 {
-    match e {
-        Expr::Place(k) => Some(*k),
+    match e.root() {
+        Root::Place(k) => Some(k),
         _ => None,
     }
 }

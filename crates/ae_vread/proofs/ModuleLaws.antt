@@ -24,12 +24,12 @@ NoItem ts = (f : ItemForm) (more : List TokenTree) → IsItemOf f ts more → �
 last_there : (ts : List TokenTree) → Last ts → is_last ts (after_word EndModule ts) ≡ true
 last_there ts e = ap (λ ts. is_last ts (after_word EndModule ts)) e
 
-last_from : (ts : List TokenTree) (o : Option (List TokenTree)) → after_word EndModule ts ≡ o → is_last ts o ≡ true → Last ts
+pub last_from : (ts : List TokenTree) (o : Option (List TokenTree)) → after_word EndModule ts ≡ o → is_last ts o ≡ true → Last ts
 last_from ts None is h = absurd (let e : false ≡ true = h in cc)
 last_from ts (Some []) is h = word_was EndModule ts [] is
 last_from ts (Some (u ∷ us)) is h = absurd (let e : false ≡ true = h in cc)
 
-no_item_last : (k : ℕ) (ts : List TokenTree) → Last ts → item_at k ts ≡ None
+pub no_item_last : (k : ℕ) (ts : List TokenTree) → Last ts → item_at k ts ≡ None
 no_item_last k ts e = ap (item_at k) e
 
 item_again_at : (f : ItemForm) (k : ℕ) (ts more : List TokenTree) → IsItemOf f ts more → item_at k ts ≡ Some (item_found (item_nets k f) (item_of f) more)

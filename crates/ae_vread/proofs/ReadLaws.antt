@@ -7,7 +7,7 @@ use Rattle.ae_vread.specs.Forms.{module_tokens}
 use Rattle.ae_vread.specs.Spells.{Spells}
 use Rattle.ae_vread.specs.View.{module_tree}
 use Rattle.ae_vread.specs.ItemReading.{TreeFault, HeaderFault, ItemFault, read_module}
-use Rattle.ae_vread.specs.ItemView.{GivesRead}
+use Rattle.ae_vread.specs.ReadModule.{GivesRead}
 use Rattle.ae_vread.specs.Refusals.{HasFault, FaultHolds, GivesModule, GivesFault}
 use Rattle.ae_vread.specs.declared.module.VModule.{VModule}
 use Rattle.ae_vread.specs.declared.reader.VFault.{VFault}

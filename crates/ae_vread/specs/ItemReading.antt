@@ -46,6 +46,10 @@ abbrev pub is_zero : TokenTree → Bool
 is_zero Zero = true
 is_zero _ = false
 
+abbrev pub is_zero_first : Option TokenTree → Bool
+is_zero_first None = false
+is_zero_first (Some t) = is_zero t
+
 abbrev pub after_zero : List TokenTree → Option (List TokenTree)
 after_zero [] = None
 after_zero (t ∷ ts) = if is_zero t then Some ts else None

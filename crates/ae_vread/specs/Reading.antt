@@ -35,6 +35,10 @@ abbrev pub infix_of : TokenTree → Option BinOp
 infix_of (Mark s) = sign_infix s
 infix_of _ = None
 
+abbrev pub infix_of_first : Option TokenTree → Option BinOp
+infix_of_first None = None
+infix_of_first (Some t) = infix_of t
+
 -- what a token begins where an operand is wanted
 pub data Start : Type 0 where
   StartName : (n : List ℕ) → Start
@@ -73,10 +77,6 @@ Reader = ℕ → List TokenTree → Option Found
 -- one level more, up to the greatest depth
 abbrev pub deeper : ℕ → Option ℕ
 deeper n = if nat_lt n 256 then Some (n + 1) else None
-
--- an expression whose parts are so deep
-abbrev pub expr_above : ExprTree → ℕ → List TokenTree → Option Found
-expr_above tree depth rest = deeper depth >>= λ k. Some (found tree k rest)
 
 abbrev pub closed : Found → Option Found
 closed x = after_mark Close x.rest >>= λ ts. deeper x.depth >>= λ k. Some (found x.tree k ts)
@@ -138,6 +138,10 @@ concat_of (x ∷ xs) = concat_behind x xs
 
 abbrev pub braced : Parts → Option Found
 braced p = deeper p.depth >>= λ k. Some (found (concat_of p.trees) k p.rest)
+
+-- the parts behind a brace, up to the one that closes them
+abbrev pub braces : Reader → List TokenTree → Option Found
+braces read ts = parts read (length ts) (parts_of [] 0 ts) >>= braced
 
 -- an operand with no prefix
 abbrev pub operand_from : Reader → Start → List TokenTree → Option Found

@@ -17,10 +17,6 @@ pub record StmtFound : Type 0 where
 abbrev pub stmt_found : StmtTree → ℕ → List TokenTree → StmtFound
 stmt_found tree depth rest = record { tree = tree; depth = depth; rest = rest }
 
--- a statement whose parts are so deep
-abbrev pub stmt_above : StmtTree → ℕ → List TokenTree → Option StmtFound
-stmt_above tree depth rest = deeper depth >>= λ k. Some (stmt_found tree k rest)
-
 -- statements of a block, the depth of the deepest, and the tokens behind them
 pub record Body : Type 0 where
   pub trees : List StmtTree
@@ -97,6 +93,10 @@ body read (suc k) b = by_end read (body read k) b (after_word End b.rest)
 
 abbrev pub blocked : Body → Option StmtFound
 blocked b = deeper b.depth >>= λ k. Some (stmt_found (block_of b.trees) k b.rest)
+
+-- the statements behind a `begin`, up to its `end`
+abbrev pub block_at : StmtReader → List TokenTree → Option StmtFound
+block_at read ts = body read (length ts) (body_of [] 0 ts) >>= blocked
 
 -- what a token begins where a statement is wanted
 pub data StmtStart : Type 0 where

@@ -70,6 +70,15 @@ abbrev pub is_word : Key → TokenTree → Bool
 is_word k (Word l) = nat_eq (key_number k) (key_number l)
 is_word k _ = false
 
+-- whether a token is this sign, or this word, where there is one
+abbrev pub is_mark_first : Sign → Option TokenTree → Bool
+is_mark_first s None = false
+is_mark_first s (Some t) = is_mark s t
+
+abbrev pub is_word_first : Key → Option TokenTree → Bool
+is_word_first k None = false
+is_word_first k (Some t) = is_word k t
+
 -- the tokens behind this sign, if it stands in front
 abbrev pub after_mark : Sign → List TokenTree → Option (List TokenTree)
 after_mark s [] = None
@@ -84,6 +93,10 @@ abbrev pub name_of_token : TokenTree → Option (List ℕ)
 name_of_token (Name n) = Some n
 name_of_token _ = None
 
+abbrev pub name_of_first : Option TokenTree → Option (List ℕ)
+name_of_first None = None
+name_of_first (Some t) = name_of_token t
+
 -- a name in front, and the tokens behind it
 abbrev pub first_name : List TokenTree → Option (List ℕ × List TokenTree)
 first_name [] = None
@@ -93,6 +106,10 @@ abbrev pub number_of_token : TokenTree → Option ℕ
 number_of_token Zero = Some 0
 number_of_token (Decimal n) = Some n
 number_of_token _ = None
+
+abbrev pub number_of_first : Option TokenTree → Option ℕ
+number_of_first None = None
+number_of_first (Some t) = number_of_token t
 
 -- a decimal number in front, and the tokens behind it
 abbrev pub first_number : List TokenTree → Option (ℕ × List TokenTree)

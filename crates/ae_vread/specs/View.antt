@@ -1,62 +1,57 @@
--- The tree of a module of the code.
-use Rattle.std.specs.Prelude.{[], map, string_bytes}
-use Rattle.ae_vread.specs.ModuleTree.{ExprTree, name, constant, place, part, index, unary, binary, choice, concat_one, concat_more, StmtTree, set, put, when, either, block_end, block_more, NetTree, DriveTree, ItemTree, nets, assigns, always, ModuleTree}
-use Rattle.ae_vread.specs.declared.module.Expr as e
-use Rattle.ae_vread.specs.declared.module.Stmt as s
+-- The tree of a module of the code: its names stand by their numbers among the different names of its text.
+use Rattle.std.specs.Prelude.{ℕ, List, [], get_or, map}
+use Rattle.ae_vread.specs.ModuleTree as m
+use Rattle.ae_vread.specs.ModuleTree.{ExprTree, StmtTree, NetTree, DriveTree, ItemTree, ModuleTree}
+use Rattle.ae_vread.specs.Numbered as n
+use Rattle.ae_vread.specs.Numbered.{NumberedExpr, NumberedStmt}
+use Rattle.ae_vread.specs.Roots.{code_expr, code_stmt}
 use Rattle.ae_vread.specs.declared.module.VNet.{VNet}
 use Rattle.ae_vread.specs.declared.module.Drive.{Drive}
 use Rattle.ae_vread.specs.declared.module.VItem.{VItem}
 use Rattle.ae_vread.specs.declared.module.VItem.TheVariants.{Nets, Assign, Always}
 use Rattle.ae_vread.specs.declared.module.VModule.{VModule}
 
-abbrev mutual
-  -- a concatenation of no parts, which no text spells, goes to one of a name of no letters
-  pub expr_tree : e.Expr → ExprTree
-  expr_tree (e.Name n) = name (string_bytes n)
-  expr_tree (e.Const size value fits) = constant size value fits
-  expr_tree (e.Place n) = place n
-  expr_tree (e.Part n high low) = part (string_bytes n) high low
-  expr_tree (e.Index' n p at) = index (string_bytes n) (expr_tree at)
-  expr_tree (e.Unary' op p a) = unary op (expr_tree a)
-  expr_tree (e.Binary' op p a q b) = binary op (expr_tree a) (expr_tree b)
-  expr_tree (e.Choose' p test q a r b) = choice (expr_tree test) (expr_tree a) (expr_tree b)
-  expr_tree (e.Concat' shape row) = parts_tree row
+-- the name of a number
+abbrev pub word_at : List (List ℕ) → ℕ → List ℕ
+word_at ws k = get_or ws k []
 
-  pub parts_tree : {m : _} → e.Row_of-Expr m → ExprTree
-  parts_tree e.end_of-Expr = concat_one (name [])
-  parts_tree (e.more_of-Expr a more) = parts_behind (expr_tree a) more
+-- an expression with its names
+abbrev pub expr_tree : List (List ℕ) → NumberedExpr → ExprTree
+expr_tree ws (n.name k) = m.name (word_at ws k)
+expr_tree ws (n.constant size value fits) = m.constant size value fits
+expr_tree ws (n.place p) = m.place p
+expr_tree ws (n.part k high low) = m.part (word_at ws k) high low
+expr_tree ws (n.index k at) = m.index (word_at ws k) (expr_tree ws at)
+expr_tree ws (n.unary op a) = m.unary op (expr_tree ws a)
+expr_tree ws (n.binary op a b) = m.binary op (expr_tree ws a) (expr_tree ws b)
+expr_tree ws (n.choice test a b) = m.choice (expr_tree ws test) (expr_tree ws a) (expr_tree ws b)
+expr_tree ws (n.concat_one a) = m.concat_one (expr_tree ws a)
+expr_tree ws (n.concat_more a rest) = m.concat_more (expr_tree ws a) (expr_tree ws rest)
 
-  -- the parts behind a first one
-  pub parts_behind : {m : _} → ExprTree → e.Row_of-Expr m → ExprTree
-  parts_behind first e.end_of-Expr = concat_one first
-  parts_behind first (e.more_of-Expr a more) = concat_more first (parts_behind (expr_tree a) more)
+-- a statement with its names
+abbrev pub stmt_tree : List (List ℕ) → NumberedStmt → StmtTree
+stmt_tree ws (n.set k value) = m.set (word_at ws k) (expr_tree ws value)
+stmt_tree ws (n.put k at value) = m.put (word_at ws k) (expr_tree ws at) (expr_tree ws value)
+stmt_tree ws (n.when test then) = m.when (expr_tree ws test) (stmt_tree ws then)
+stmt_tree ws (n.either test then otherwise) = m.either (expr_tree ws test) (stmt_tree ws then) (stmt_tree ws otherwise)
+stmt_tree ws n.block_end = m.block_end
+stmt_tree ws (n.block_more first rest) = m.block_more (stmt_tree ws first) (stmt_tree ws rest)
 
-abbrev mutual
-  pub stmt_tree : s.Stmt → StmtTree
-  stmt_tree (s.Set n value) = set (string_bytes n) (expr_tree value)
-  stmt_tree (s.Put n at value) = put (string_bytes n) (expr_tree at) (expr_tree value)
-  stmt_tree (s.If' test p then held) = choice_tree (expr_tree test) (stmt_tree then) held
-  stmt_tree (s.Block' shape row) = block_tree row
+abbrev pub net_tree : List (List ℕ) → VNet → NetTree
+net_tree ws v = record { name = word_at ws v.name; width = v.width; ranged = v.ranged; kind = v.kind; item = v.item }
 
-  pub choice_tree : ExprTree → StmtTree → s.Held-Stmt-If-2 → StmtTree
-  choice_tree test then s.None' = when test then
-  choice_tree test then (s.Some' p otherwise) = either test then (stmt_tree otherwise)
+abbrev pub drive_tree : List (List ℕ) → Drive → DriveTree
+drive_tree ws d = record { name = word_at ws d.name; value = expr_tree ws (code_expr d.value) }
 
-  pub block_tree : {m : _} → s.Row_of-Stmt m → StmtTree
-  block_tree s.end_of-Stmt = block_end
-  block_tree (s.more_of-Stmt first more) = block_more (stmt_tree first) (block_tree more)
-
-abbrev pub net_tree : VNet → NetTree
-net_tree n = record { name = string_bytes n.name; width = n.width; ranged = n.ranged; kind = n.kind; item = n.item }
-
-abbrev pub drive_tree : Drive → DriveTree
-drive_tree d = record { name = string_bytes d.name; value = expr_tree d.value }
-
-abbrev pub item_tree : VItem → ItemTree
-item_tree (Nets drives) = nets (map drive_tree drives.items)
-item_tree (Assign drives) = assigns (map drive_tree drives.items)
-item_tree (Always clock body) = always (string_bytes clock) (stmt_tree body.value)
+abbrev pub item_tree : List (List ℕ) → VItem → ItemTree
+item_tree ws (Nets drives) = m.nets (map (drive_tree ws) drives.items)
+item_tree ws (Assign drives) = m.assigns (map (drive_tree ws) drives.items)
+item_tree ws (Always clock body) = m.always (word_at ws clock) (stmt_tree ws (code_stmt body))
 
 abbrev pub module_tree : VModule → ModuleTree
-module_tree m =
-    record { name = string_bytes m.name; nets = map net_tree m.nets.items; items = map item_tree m.items.items }
+module_tree v =
+    record {
+      name = word_at v.words v.name;
+      nets = map (net_tree v.words) v.nets.items;
+      items = map (item_tree v.words) v.items.items;
+    }

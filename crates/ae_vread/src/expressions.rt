@@ -1,424 +1,305 @@
 // Reading an expression from the tokens, by the strengths of the operators.
 
-ghost use Rattle.std.specs.Prelude.{◌≡◌, ◌+◌, ◌++◌, ◌<◌, [], ◌∷◌, length, max, option_map, IfSome, Option, Some};
-ghost use Rattle.ae_vread.specs.View.{expr_tree};
+ghost use Rattle.std.specs.Prelude.{◌≡◌, ◌+◌, ◌<◌, ◌^◌, ℕ, List, ◌∷◌, IfErr, IfNone, IfSome, OnOk, Some, ◌≤◌, None, length, max, option_map, slice_get};
+ghost use Rattle.ae_vtoken.specs.Ahead.{ahead};
+ghost use Rattle.ae_vtoken.specs.Scan.{token_view};
 ghost use Rattle.ae_vread.specs.ExprForms.{strength};
-ghost use Rattle.ae_vtoken.specs.Scan.{token_view, views};
+ghost use Rattle.ae_vread.specs.Held.{held};
+ghost use Rattle.ae_vread.specs.Numbered.{NumberedExpr, Piece, expr};
 ghost use Rattle.ae_vread.specs.TokenTests.{after_mark, first_number};
-ghost use Rattle.ae_vread.specs.Reading as r;
-ghost use Rattle.ae_vread.specs.Reading.{found, expr_above, with_part, more_parts, expression, whole_expression, joined_at, chosen, chosen_of, unary_at, operand, named, selected, placed, indexed, parts, parts_of, part_then, braced, closed, prefixed, joined, infix_at, infix_of, sign_infix};
-ghost use Rattle.ae_vread.specs.ReadView.{found_view, parts_view, Gives, Continues};
-ghost use Rattle.ae_vtoken.specs.declared.token.Sign.TheVariants.{OpenBracket, Colon, Comma};
-ghost use Rattle.ae_vread.specs.ModuleTree.{name};
-ghost use Rattle.ae_vtoken.specs.Tokens.{Mark};
+ghost use Rattle.ae_vread.specs.Parts.{HasParts, concat_parts, pushed};
+ghost use Rattle.ae_vtoken.specs.declared.token.Sign.TheVariants.{Colon, OpenBracket};
+ghost use Rattle.ae_vread.specs.declared.reading.ReadFault.TheVariants.{Memory};
+ghost use Rattle.ae_vread.specs.Reading.{Found, braces, chosen, chosen_of, closed, expression, indexed, infix_at, infix_of_first, joined, joined_at, named, operand, placed, prefixed, selected, sign_infix, unary_at, whole_expression};
+ghost use Rattle.ae_vread.specs.ReadExpr.{Holds, HoldsThree, HoldsTwo, Reads, used};
+ghost use Rattle.ae_vread.specs.Stacks.{HasChoice, HasExpr, HasExprs};
 
-use crate::module::{BinOp, Expr, UnOp};
-use crate::reading::{
-    Found, Parts, ReadFault, after_mark, deeper, first_name, first_number, want_mark, want_number,
-};
+use crate::module::{BinOp, UnOp};
+use crate::reading::{ReadFault, Reader, deeper};
 use ae_vtoken::{Sign, Token};
-use std::alloc::Global;
 
-/// Reads an expression whose outermost operator is at least so strong and whose parts nest at most so deep.
-#[cycle(expressions)]
-fn expression<'t, 'a>(
-    alloc: Global,
-    budget: u32,
-    least: u32,
-    tokens: &'t [Token<'a>],
-) -> Result<Found<'t, 'a>, ReadFault>
-    ensures { Gives found_view result (expression budget least (views tokens.now)) }
-{
-    if budget == 0 {
-        return Err(ReadFault::Syntax);
+impl Reader<'_> {
+    /// A prefix in front of the expression on top.
+    fn prefix(&mut self, op: UnOp, depth: u32) -> Result<u32, ReadFault>
+        requires some { HasExpr (held self.old.stack) }
+        requires room { used self.old + 1 < 2 ^ 32 }
+        ensures read { (x : Found) (below : List Piece) → Holds below self.old depth x → Reads below self.old.words self.new result (prefixed op x) }
+        ensures few { OnOk result (used self.new ≤ used self.old + 1) }
+    {
+        let depth = deeper(depth)?;
+        self.stack.unary(op)?;
+        Ok(depth)
     }
-    let left = joined_at(alloc, budget - 1, least, tokens)?;
-    chosen(alloc, budget - 1, least, left)
-}
 
-/// Reads an expression at most 256 deep.
-pub fn whole_expression<'t, 'a>(
-    alloc: Global,
-    tokens: &'t [Token<'a>],
-) -> Result<Found<'t, 'a>, ReadFault>
-    ensures { Gives found_view result (whole_expression (views tokens.now)) }
-{
-    expression(alloc, 256, 1, tokens)
-}
-
-/// An operand and what stronger operators join to it.
-#[cycle(expressions)]
-fn joined_at<'t, 'a>(
-    alloc: Global,
-    budget: u32,
-    least: u32,
-    tokens: &'t [Token<'a>],
-) -> Result<Found<'t, 'a>, ReadFault>
-    ensures { Gives found_view result (joined_at (expression budget) least (views tokens.now)) }
-{
-    let mut left = unary_at(alloc, budget, tokens)?;
-    'turn: for turn in 0..256u32 {
-        let Some((op, rest)) = infix_at(least, left.rest) else {
-            return Ok(left);
-        };
-        let right = expression(alloc, budget, above(op), rest)?;
-        left = joined(alloc, op, left, right)?;
+    /// An operator on the two expressions on top, which are so deep.
+    fn join(&mut self, op: BinOp, left: u32, right: u32) -> Result<u32, ReadFault>
+        requires some { HasExprs (held self.old.stack) }
+        requires room { used self.old + 1 < 2 ^ 32 }
+        ensures read { (x y : Found) (below : List Piece) → HoldsTwo below self.old left right x y → Reads below self.old.words self.new result (joined op x y) }
+        ensures few { OnOk result (used self.new ≤ used self.old + 1) }
+    {
+        let depth = deeper(left.max(right))?;
+        self.stack.binary(op)?;
+        Ok(depth)
     }
-    Err(ReadFault::Syntax)
-}
 
-/// A test goes on with its two arms, where the weakest operator may stand.
-#[cycle(expressions)]
-fn chosen<'t, 'a>(
-    alloc: Global,
-    budget: u32,
-    least: u32,
-    test: Found<'t, 'a>,
-) -> Result<Found<'t, 'a>, ReadFault>
-    ensures { Gives found_view result (chosen (expression budget) least (found_view test.entry)) }
-{
-    if least > 1 {
-        return Ok(test);
+    /// A choice between the two expressions on top by the one under them.
+    fn choose(&mut self, test: u32, first: u32, second: u32) -> Result<u32, ReadFault>
+        requires some { HasChoice (held self.old.stack) }
+        requires room { used self.old + 1 < 2 ^ 32 }
+        ensures read { (x y z : Found) (below : List Piece) → HoldsThree below self.old test first second x y z → Reads below self.old.words self.new result (chosen_of x y z) }
+        ensures few { OnOk result (used self.new ≤ used self.old + 1) }
+    {
+        let depth = deeper(test.max(first.max(second)))?;
+        self.stack.choice()?;
+        Ok(depth)
     }
-    let Some(rest) = after_mark(Sign::Question, test.rest) else {
-        return Ok(test);
-    };
-    let first = expression(alloc, budget, 1, rest)?;
-    let behind = want_mark(Sign::Colon, first.rest)?;
-    let second = expression(alloc, budget, 1, behind)?;
-    chosen_of(alloc, test, first, second)
-}
 
-fn chosen_of<'t, 'a>(
-    alloc: Global,
-    test: Found<'t, 'a>,
-    first: Found<'t, 'a>,
-    second: Found<'t, 'a>,
-) -> Result<Found<'t, 'a>, ReadFault>
-    ensures { Gives found_view result (chosen_of (found_view test.entry) (found_view first.entry) (found_view second.entry)) }
-{
-    let depth = test.depth.max(first.depth.max(second.depth));
-    let tree = Expr::Choose(test.tree, first.tree, second.tree);
-    expr_above(alloc, tree, depth, second.rest)
-}
+    /// The parenthesis that closes an expression.
+    fn close(&mut self, depth: u32) -> Result<u32, ReadFault>
+        ensures read { (x : Found) (below : List Piece) → Holds below self.old depth x → Reads below self.old.words self.new result (closed x) }
+        ensures few { OnOk result (used self.new ≤ used self.old) }
+    {
+        self.want_mark(Sign::Close)?;
+        let depth = deeper(depth)?;
+        Ok(depth)
+    }
 
-/// An expression of this depth, with the tokens behind it.
-fn boxed<'t, 'a>(
-    alloc: Global,
-    tree: Expr,
-    depth: u32,
-    rest: &'t [Token<'a>],
-) -> Result<Found<'t, 'a>, ReadFault>
-    ensures { Gives found_view result (Some (found (expr_tree tree) depth (views rest.now))) }
-{
-    let tree = Box::new(alloc, tree)?;
-    Ok(Found { tree, depth, rest })
-}
-
-/// An expression whose parts are so deep, with the tokens behind it.
-fn expr_above<'t, 'a>(
-    alloc: Global,
-    tree: Expr,
-    depth: u32,
-    rest: &'t [Token<'a>],
-) -> Result<Found<'t, 'a>, ReadFault>
-    ensures { Gives found_view result (expr_above (expr_tree tree) depth (views rest.now)) }
-{
-    let tree = Box::new(alloc, tree)?;
-    let depth = deeper(depth)?;
-    Ok(Found { tree, depth, rest })
-}
-
-/// An operand, or a prefix and an operand.
-#[cycle(expressions)]
-fn unary_at<'t, 'a>(
-    alloc: Global,
-    budget: u32,
-    tokens: &'t [Token<'a>],
-) -> Result<Found<'t, 'a>, ReadFault>
-    ensures { Gives found_view result (unary_at (expression budget) (views tokens.now)) }
-{
-    let Some((first, rest)) = tokens.split_first() else {
-        return Err(ReadFault::Syntax);
-    };
-    match first {
-        Token::Mark(Sign::Bang) => prefixed(alloc, UnOp::Not, operand(alloc, budget, rest)?),
-        Token::Mark(Sign::Tilde) => prefixed(alloc, UnOp::Flip, operand(alloc, budget, rest)?),
-        _ => operand(alloc, budget, tokens),
+    /// The bracket that closes an index.
+    fn index(&mut self, name: u32, depth: u32) -> Result<u32, ReadFault>
+        requires some { HasExpr (held self.old.stack) }
+        ensures read { (n : List ℕ) (x : Found) (below : List Piece) → slice_get self.old.words name ≡ Some n → Holds below self.old depth x → Reads below self.old.words self.new result (indexed n x) }
+        ensures few { OnOk result (used self.new ≤ used self.old) }
+    {
+        self.want_mark(Sign::CloseBracket)?;
+        let depth = deeper(depth)?;
+        self.stack.index(name)?;
+        Ok(depth)
     }
 }
 
-/// An operand with no prefix.
-#[cycle(expressions)]
-fn operand<'t, 'a>(
-    alloc: Global,
-    budget: u32,
-    tokens: &'t [Token<'a>],
-) -> Result<Found<'t, 'a>, ReadFault>
-    ensures { Gives found_view result (operand (expression budget) (views tokens.now)) }
-{
-    let Some((first, rest)) = tokens.split_first() else {
-        return Err(ReadFault::Syntax);
-    };
-    match first {
-        Token::Name(name) => named(alloc, budget, name, rest),
-        Token::Sized { size, value, fits } => {
-            let tree = Expr::Const {
-                size: *size,
-                value: *value,
-                fits: *fits,
+impl<'a> Reader<'a> {
+    /// The operator in front, where it is at least so strong.
+    fn infix(&mut self, least: u32) -> Option<BinOp>
+        ensures there { IfSome result (λ op. infix_at least (ahead self.old.tokens) ≡ Some (op, ahead self.new.tokens)) }
+        ensures shorter { IfSome result (λ op. length (ahead self.new.tokens) + 1 ≡ length (ahead self.old.tokens)) }
+        ensures none { IfNone result (infix_at least (ahead self.old.tokens) ≡ None) }
+        ensures tokens { IfNone result (self.new.tokens ≡ self.old.tokens) }
+        ensures stack { self.new.stack ≡ self.old.stack }
+        ensures words { self.new.words ≡ self.old.words }
+    {
+        let op = infix_of(self.tokens.first())?;
+        if least <= strength(op) {
+            self.skip();
+            Some(op)
+        } else {
+            None
+        }
+    }
+}
+
+impl<'a> Reader<'a> {
+    /// Reads an expression whose outermost operator is at least so strong and whose parts nest at most so deep, and tells its
+    /// depth.
+    #[cycle(expressions)]
+    fn expression(&mut self, budget: u32, least: u32) -> Result<u32, ReadFault>
+        ensures read { Reads (held self.old.stack) self.old.words self.new result (expression budget least (ahead self.old.tokens)) }
+        ensures few { OnOk result (used self.new ≤ used self.old) }
+    {
+        if budget == 0 {
+            return Err(ReadFault::Syntax);
+        }
+        let depth = self.joined_at(budget - 1, least)?;
+        self.chosen(budget - 1, least, depth)
+    }
+
+    /// Reads an expression at most 256 deep, and tells its depth.
+    pub fn whole_expression(&mut self) -> Result<u32, ReadFault>
+        ensures read { Reads (held self.old.stack) self.old.words self.new result (whole_expression (ahead self.old.tokens)) }
+        ensures few { OnOk result (used self.new ≤ used self.old) }
+    {
+        self.expression(256, 1)
+    }
+
+    /// An operand and what stronger operators join to it.
+    #[cycle(expressions)]
+    fn joined_at(&mut self, budget: u32, least: u32) -> Result<u32, ReadFault>
+        ensures read { Reads (held self.old.stack) self.old.words self.new result (joined_at (expression budget) least (ahead self.old.tokens)) }
+        ensures few { OnOk result (used self.new ≤ used self.old) }
+    {
+        let mut depth = self.unary_at(budget)?;
+        'turn: for turn in 0..256u32 {
+            let Some(op) = self.infix(least) else {
+                return Ok(depth);
             };
-            boxed(alloc, tree, 1, rest)
+            let right = self.expression(budget, above(op))?;
+            depth = self.join(op, depth, right)?;
         }
-        Token::Mark(Sign::Open) => closed(expression(alloc, budget, 1, rest)?),
-        Token::Mark(Sign::OpenBrace) => braced(alloc, parts(alloc, budget, rest)?),
-        _ => Err(ReadFault::Syntax),
+        Err(ReadFault::Syntax)
     }
-}
 
-/// A name and its select, if it has one.
-#[cycle(expressions)]
-fn named<'t, 'a>(
-    alloc: Global,
-    budget: u32,
-    name: &'a str,
-    tokens: &'t [Token<'a>],
-) -> Result<Found<'t, 'a>, ReadFault>
-    ensures { Gives found_view result (named (expression budget) name.now (views tokens.now) (after_mark OpenBracket (views tokens.now))) }
-{
-    let Some(rest) = after_mark(Sign::OpenBracket, tokens) else {
-        let name = String::from_str(alloc, name)?;
-        return boxed(alloc, Expr::Name(name), 1, tokens);
-    };
-    selected(alloc, budget, name, rest)
-}
-
-/// What stands in the brackets behind a name.
-#[cycle(expressions)]
-fn selected<'t, 'a>(
-    alloc: Global,
-    budget: u32,
-    name: &'a str,
-    tokens: &'t [Token<'a>],
-) -> Result<Found<'t, 'a>, ReadFault>
-    ensures { Gives found_view result (selected (expression budget) name.now (views tokens.now) (first_number (views tokens.now))) }
-{
-    match first_number(tokens) {
-        Some((value, rest)) => placed(alloc, name, value, rest),
-        None => indexed(alloc, name, expression(alloc, budget, 1, tokens)?),
-    }
-}
-
-/// A place or a part behind its first number.
-fn placed<'t, 'a>(
-    alloc: Global,
-    name: &'a str,
-    value: u32,
-    tokens: &'t [Token<'a>],
-) -> Result<Found<'t, 'a>, ReadFault>
-    ensures { Gives found_view result (placed name.now value (views tokens.now) (after_mark Colon (views tokens.now))) }
-{
-    let Some(behind) = after_mark(Sign::Colon, tokens) else {
-        let rest = want_mark(Sign::CloseBracket, tokens)?;
-        let at = Box::new(alloc, Expr::Place(value))?;
-        let name = String::from_str(alloc, name)?;
-        return boxed(alloc, Expr::Index { name, at }, 2, rest);
-    };
-    let (low, behind) = want_number(behind)?;
-    let rest = want_mark(Sign::CloseBracket, behind)?;
-    let name = String::from_str(alloc, name)?;
-    let tree = Expr::Part {
-        name,
-        high: value,
-        low,
-    };
-    boxed(alloc, tree, 2, rest)
-}
-
-/// The bracket that closes an index.
-fn indexed<'t, 'a>(
-    alloc: Global,
-    name: &'a str,
-    at: Found<'t, 'a>,
-) -> Result<Found<'t, 'a>, ReadFault>
-    ensures { Gives found_view result (indexed name.now (found_view at.entry)) }
-{
-    let Found {
-        tree: at,
-        depth,
-        rest,
-    } = at;
-    let rest = want_mark(Sign::CloseBracket, rest)?;
-    let name = String::from_str(alloc, name)?;
-    expr_above(alloc, Expr::Index { name, at }, depth, rest)
-}
-
-/// The parts up to the brace that closes them.
-#[cycle(expressions)]
-fn parts<'t, 'a>(
-    alloc: Global,
-    budget: u32,
-    tokens: &'t [Token<'a>],
-) -> Result<Parts<'t, 'a>, ReadFault>
-    ensures { Gives parts_view result (parts (expression budget) (length (views tokens.now)) (parts_of [] 0 (views tokens.now))) }
-{
-    // Most have one part, and the least room that a push makes is for four.
-    let trees = Vec::with_capacity(alloc, 1)?;
-    let mut held = Parts {
-        trees,
-        depth: 0,
-        rest: tokens,
-    };
-    'part: for turn in 0..tokens.len() {
-        let (next, more) = one_part(alloc, budget, held)?;
-        if !more {
-            return Ok(next);
+    /// A test goes on with its two arms, where the weakest operator may stand.
+    #[cycle(expressions)]
+    fn chosen(&mut self, budget: u32, least: u32, depth: u32) -> Result<u32, ReadFault>
+        requires some { HasExpr (held self.old.stack) }
+        ensures read { (x : Found) (below : List Piece) → Holds below self.old depth x → Reads below self.old.words self.new result (chosen (expression budget) least x) }
+        ensures few { OnOk result (used self.new ≤ used self.old) }
+    {
+        if least > 1 {
+            return Ok(depth);
         }
-        held = next;
-    }
-    Err(ReadFault::Syntax)
-}
-
-/// The next part, and whether a comma stands behind it. A name with a comma behind it is a part as it stands.
-#[cycle(expressions)]
-fn one_part<'t, 'a>(
-    alloc: Global,
-    budget: u32,
-    held: Parts<'t, 'a>,
-) -> Result<(Parts<'t, 'a>, bool), ReadFault>
-    ensures { (go_on : r.Parts → Option r.Parts) → Continues parts_view go_on (λ p. p) result (part_then (expression budget) go_on (parts_view held.entry)) }
-{
-    match lone_part(budget, held.rest) {
-        Some((word, rest)) => {
-            let next = with_word(alloc, held, word, rest)?;
-            Ok((next, true))
+        if !self.mark(Sign::Question) {
+            return Ok(depth);
         }
-        None => {
-            let part = expression(alloc, budget, 1, held.rest)?;
-            with_part(held, part)
+        let first = self.expression(budget, 1)?;
+        self.want_mark(Sign::Colon)?;
+        let second = self.expression(budget, 1)?;
+        self.choose(depth, first, second)
+    }
+
+    /// An operand, or a prefix and an operand.
+    #[cycle(expressions)]
+    fn unary_at(&mut self, budget: u32) -> Result<u32, ReadFault>
+        ensures read { Reads (held self.old.stack) self.old.words self.new result (unary_at (expression budget) (ahead self.old.tokens)) }
+        ensures few { OnOk result (used self.new ≤ used self.old) }
+    {
+        if self.mark(Sign::Bang) {
+            let depth = self.operand(budget)?;
+            self.prefix(UnOp::Not, depth)
+        } else if self.mark(Sign::Tilde) {
+            let depth = self.operand(budget)?;
+            self.prefix(UnOp::Flip, depth)
+        } else {
+            self.operand(budget)
         }
     }
-}
 
-/// A name with a comma behind it, and the tokens behind both.
-fn lone_part<'t, 'a>(budget: u32, tokens: &'t [Token<'a>]) -> Option<(&'a str, &'t [Token<'a>])>
-    ensures { IfSome result (λ x. expression budget 1 (views tokens.now) ≡ Some (found (name x.0.now) 1 (Mark Comma ∷ views x.1.now))) }
-{
-    if budget == 0 {
-        return None;
-    }
-    let (word, behind) = first_name(tokens)?;
-    let rest = after_mark(Sign::Comma, behind)?;
-    Some((word, rest))
-}
-
-/// A name more, in front of these tokens.
-fn with_word<'t, 'a>(
-    alloc: Global,
-    held: Parts<'t, 'a>,
-    word: &'a str,
-    rest: &'t [Token<'a>],
-) -> Result<Parts<'t, 'a>, ReadFault>
-    ensures { Gives parts_view result (Some (parts_of ((parts_view held.entry).trees ++ name word.now ∷ []) (max (parts_view held.entry).depth 1) (views rest.now))) }
-{
-    let Parts {
-        mut trees,
-        depth,
-        ..
-    } = held;
-    let word = String::from_str(alloc, word)?;
-    trees.push(Expr::Name(word))?;
-    let depth = depth.max(1);
-    Ok(Parts { trees, depth, rest })
-}
-
-/// One part more, and whether a comma stands behind it.
-fn with_part<'t, 'a>(
-    held: Parts<'t, 'a>,
-    part: Found<'t, 'a>,
-) -> Result<(Parts<'t, 'a>, bool), ReadFault>
-    ensures { (go_on : r.Parts → Option r.Parts) → Continues parts_view go_on (λ p. p) result (more_parts go_on (with_part (parts_view held.entry) (found_view part.entry))) }
-{
-    let Parts {
-        mut trees,
-        depth,
-        ..
-    } = held;
-    let Found {
-        tree,
-        depth: deep,
-        rest: behind,
-    } = part;
-    trees.push(Box::into_inner(tree))?;
-    let depth = depth.max(deep);
-    match after_mark(Sign::Comma, behind) {
-        Some(rest) => Ok((Parts { trees, depth, rest }, true)),
-        None => {
-            let rest = want_mark(Sign::CloseBrace, behind)?;
-            Ok((Parts { trees, depth, rest }, false))
+    /// An operand with no prefix.
+    #[cycle(expressions)]
+    fn operand(&mut self, budget: u32) -> Result<u32, ReadFault>
+        ensures read { Reads (held self.old.stack) self.old.words self.new result (operand (expression budget) (ahead self.old.tokens)) }
+        ensures few { OnOk result (used self.new ≤ used self.old) }
+    {
+        match self.tokens.first() {
+            Some(Token::Name(_)) => {
+                let name = self.want_name()?;
+                self.named(budget, name)
+            }
+            Some(Token::Sized { size, value, fits }) => {
+                self.skip();
+                self.stack.constant(size, value, fits)?;
+                Ok(1)
+            }
+            Some(Token::Mark(Sign::Open)) => {
+                self.skip();
+                let depth = self.expression(budget, 1)?;
+                self.close(depth)
+            }
+            Some(Token::Mark(Sign::OpenBrace)) => {
+                self.skip();
+                self.braces(budget)
+            }
+            _ => Err(ReadFault::Syntax),
         }
     }
-}
 
-fn braced<'t, 'a>(alloc: Global, parts: Parts<'t, 'a>) -> Result<Found<'t, 'a>, ReadFault>
-    ensures { Gives found_view result (braced (parts_view parts.entry)) }
-{
-    let Parts { trees, depth, rest } = parts;
-    expr_above(alloc, Expr::Concat(trees), depth, rest)
-}
+    /// A name and its select, if it has one.
+    #[cycle(expressions)]
+    fn named(&mut self, budget: u32, name: u32) -> Result<u32, ReadFault>
+        requires room { used self.old + 1 < 2 ^ 32 }
+        ensures read { (n : List ℕ) → slice_get self.old.words name ≡ Some n → Reads (held self.old.stack) self.old.words self.new result (named (expression budget) n (ahead self.old.tokens) (after_mark OpenBracket (ahead self.old.tokens))) }
+        ensures few { OnOk result (used self.new ≤ used self.old + 1) }
+    {
+        if self.mark(Sign::OpenBracket) {
+            return self.selected(budget, name);
+        }
+        self.stack.name(name)?;
+        Ok(1)
+    }
 
-/// The parenthesis that closes an expression.
-fn closed<'t, 'a>(inner: Found<'t, 'a>) -> Result<Found<'t, 'a>, ReadFault>
-    ensures { Gives found_view result (closed (found_view inner.entry)) }
-{
-    let Found { tree, depth, rest } = inner;
-    let rest = want_mark(Sign::Close, rest)?;
-    let depth = deeper(depth)?;
-    Ok(Found { tree, depth, rest })
-}
+    /// What stands in the brackets behind a name.
+    #[cycle(expressions)]
+    fn selected(&mut self, budget: u32, name: u32) -> Result<u32, ReadFault>
+        requires room { used self.old + 1 < 2 ^ 32 }
+        ensures read { (n : List ℕ) → slice_get self.old.words name ≡ Some n → Reads (held self.old.stack) self.old.words self.new result (selected (expression budget) n (ahead self.old.tokens) (first_number (ahead self.old.tokens))) }
+        ensures few { OnOk result (used self.new ≤ used self.old + 1) }
+    {
+        match self.number() {
+            Some(value) => self.placed(name, value),
+            None => {
+                let depth = self.expression(budget, 1)?;
+                self.index(name, depth)
+            }
+        }
+    }
 
-fn prefixed<'t, 'a>(
-    alloc: Global,
-    op: UnOp,
-    inner: Found<'t, 'a>,
-) -> Result<Found<'t, 'a>, ReadFault>
-    ensures { Gives found_view result (prefixed op (found_view inner.entry)) }
-{
-    let Found { tree, depth, rest } = inner;
-    expr_above(alloc, Expr::Unary(op, tree), depth, rest)
-}
+    /// A place or a part behind its first number.
+    fn placed(&mut self, name: u32, value: u32) -> Result<u32, ReadFault>
+        requires room { used self.old + 2 < 2 ^ 32 }
+        ensures read { (n : List ℕ) → slice_get self.old.words name ≡ Some n → Reads (held self.old.stack) self.old.words self.new result (placed n value (ahead self.old.tokens) (after_mark Colon (ahead self.old.tokens))) }
+        ensures few { OnOk result (used self.new ≤ used self.old + 1) }
+    {
+        if self.mark(Sign::Colon) {
+            let Some(low) = self.number() else {
+                return Err(ReadFault::Syntax);
+            };
+            self.want_mark(Sign::CloseBracket)?;
+            self.stack.part(name, value, low)?;
+            return Ok(2);
+        }
+        self.want_mark(Sign::CloseBracket)?;
+        self.stack.place(value)?;
+        self.stack.index(name)?;
+        Ok(2)
+    }
 
-fn joined<'t, 'a>(
-    alloc: Global,
-    op: BinOp,
-    left: Found<'t, 'a>,
-    right: Found<'t, 'a>,
-) -> Result<Found<'t, 'a>, ReadFault>
-    ensures { Gives found_view result (joined op (found_view left.entry) (found_view right.entry)) }
-{
-    let depth = left.depth.max(right.depth);
-    let tree = Expr::Binary(op, left.tree, right.tree);
-    expr_above(alloc, tree, depth, right.rest)
-}
-
-/// The operator in front, where it is at least so strong, and the tokens behind it.
-fn infix_at<'t, 'a>(least: u32, tokens: &'t [Token<'a>]) -> Option<(BinOp, &'t [Token<'a>])>
-    ensures { infix_at least (views tokens.now) ≡ option_map (λ x. (x.0, views x.1.now)) result }
-{
-    let (first, rest) = tokens.split_first()?;
-    let op = infix_of(first)?;
-    if least <= strength(op) {
-        Some((op, rest))
-    } else {
-        None
+    /// The parts of a concatenation and the brace that closes them.
+    #[cycle(expressions)]
+    fn braces(&mut self, budget: u32) -> Result<u32, ReadFault>
+        ensures read { Reads (held self.old.stack) self.old.words self.new result (braces (expression budget) (ahead self.old.tokens)) }
+        ensures few { OnOk result (used self.new ≤ used self.old) }
+    {
+        let mut depth: u32 = 0;
+        let mut count: u32 = 0;
+        'part: for turn in 0..self.tokens.len() {
+            let part = self.expression(budget, 1)?;
+            depth = depth.max(part);
+            count += 1;
+            if !self.mark(Sign::Comma) {
+                self.want_mark(Sign::CloseBrace)?;
+                let depth = deeper(depth)?;
+                self.join_parts(count)?;
+                return Ok(depth);
+            }
+        }
+        Err(ReadFault::Syntax)
     }
 }
 
-fn infix_of(token: &Token<'_>) -> Option<BinOp>
-    ensures { result ≡ infix_of (token_view token.now) }
+impl Reader<'_> {
+    /// The concatenation of so many expressions on top.
+    fn join_parts(&mut self, count: u32) -> Result<(), ReadFault>
+        requires some { HasParts count (held self.old.stack) }
+        requires room { used self.old + count < 2 ^ 32 }
+        ensures pieces { (ps : List NumberedExpr) (below : List Piece) → length ps ≡ count → held self.old.stack ≡ pushed ps below → OnOk result (held self.new.stack ≡ expr (concat_parts ps) ∷ below) }
+        ensures memory { IfErr result (λ e. e ≡ Memory) }
+        ensures tokens { self.new.tokens ≡ self.old.tokens }
+        ensures words { self.new.words ≡ self.old.words }
+        ensures few { OnOk result (used self.new ≤ used self.old + count) }
+    {
+        self.stack.one()?;
+        'more: for turn in 1..count {
+            self.stack.more()?;
+        }
+        Ok(())
+    }
+}
+
+fn infix_of(token: Option<Token<'_>>) -> Option<BinOp>
+    ensures { result ≡ infix_of_first (option_map token_view token.entry) }
 {
     match token {
-        Token::Mark(sign) => sign_infix(*sign),
+        Some(Token::Mark(sign)) => sign_infix(sign),
         _ => None,
     }
 }

@@ -1,135 +1,112 @@
 // Reading a module's header from the tokens.
 
-ghost use Rattle.std.specs.Prelude.{◌≡◌, ◌++◌, Some, option_map};
-ghost use Rattle.ae_vtoken.specs.Scan.{views};
-ghost use Rattle.ae_vread.specs.TokenTests.{after_word};
-ghost use Rattle.ae_vread.specs.ItemReading.{without_wire, output_from, port_head, port, with_comma, port_list, header_behind, header};
-ghost use Rattle.ae_vread.specs.ReadView.{Gives};
-ghost use Rattle.ae_vread.specs.ListView.{nets_view};
-ghost use Rattle.ae_vread.specs.ItemView.{header_view};
+ghost use Rattle.std.specs.Prelude.{◌≡◌, ◌≤◌, ◌+◌, OnOk, length};
+ghost use Rattle.ae_vtoken.specs.Ahead.{ahead};
 ghost use Rattle.ae_vtoken.specs.declared.token.Key.TheVariants.{Wire as KeyWire, Reg as KeyReg};
+ghost use Rattle.ae_vread.specs.Held.{held};
+ghost use Rattle.ae_vread.specs.ItemReading.{header, output_from, port, port_head, port_list, with_comma, without_wire};
+ghost use Rattle.ae_vread.specs.Read.{Heads};
+ghost use Rattle.ae_vread.specs.ReadExpr.{used};
+ghost use Rattle.ae_vread.specs.ReadList.{ReadsHeader, ReadsList, StepsList};
+ghost use Rattle.ae_vread.specs.TokenTests.{after_word};
+ghost use Rattle.ae_vread.specs.View.{net_tree};
 
-use crate::lists::{NetList, net_list, range};
 use crate::module::{NetKind, VNet};
-use crate::reading::{ReadFault, after_mark, after_word, first_name, want_mark, want_word};
-use ae_vtoken::{Key, Sign, Token};
-use std::alloc::Global;
+use crate::reading::{ReadFault, Reader};
+use ae_vtoken::{Key, Sign};
 
-/// A module's name and ports, and the tokens behind its header.
-#[derive(Drop)]
-pub struct HeaderFound<'t, 'a> {
-    pub name: String,
-    pub nets: Vec<VNet>,
-    pub rest: &'t [Token<'a>],
-}
-
-/// The tokens behind an optional `wire`.
-fn without_wire<'t, 'a>(tokens: &'t [Token<'a>]) -> &'t [Token<'a>]
-    ensures { views result.now ≡ without_wire (views tokens.now) (after_word KeyWire (views tokens.now)) }
-{
-    let Some(rest) = after_word(Key::Wire, tokens) else {
-        return tokens;
-    };
-    rest
-}
-
-/// What stands behind `output`.
-fn output_from<'t, 'a>(tokens: &'t [Token<'a>]) -> (NetKind, &'t [Token<'a>])
-    ensures { (result.0, views result.1.now) ≡ output_from (views tokens.now) (after_word KeyReg (views tokens.now)) }
-{
-    let Some(rest) = after_word(Key::Reg, tokens) else {
-        return (NetKind::OutWire, without_wire(tokens));
-    };
-    (NetKind::OutReg, rest)
-}
-
-/// What a group of ports begins with.
-fn port_head<'t, 'a>(tokens: &'t [Token<'a>]) -> Result<(NetKind, &'t [Token<'a>]), ReadFault>
-    ensures { Gives (λ x. (x.0, views x.1.now)) result (port_head (views tokens.now)) }
-{
-    let Some(behind) = after_word(Key::Input, tokens) else {
-        let behind = want_word(Key::Output, tokens)?;
-        return Ok(output_from(behind));
-    };
-    Ok((NetKind::Input, without_wire(behind)))
-}
-
-/// A group of ports.
-fn port<'t, 'a>(alloc: Global, tokens: &'t [Token<'a>]) -> Result<NetList<'t, 'a>, ReadFault>
-    ensures { Gives nets_view result (port (views tokens.now)) }
-{
-    let (kind, behind) = port_head(tokens)?;
-    let (high, behind) = range(behind)?;
-    net_list(alloc, high, kind, 0, behind)
-}
-
-fn comma_port<'t, 'a>(
-    alloc: Global,
-    tokens: &'t [Token<'a>],
-) -> Result<Option<NetList<'t, 'a>>, ReadFault>
-    ensures { Gives (λ o. option_map nets_view o) result (with_comma port (views tokens.now)) }
-{
-    let Some(behind) = after_mark(Sign::Comma, tokens) else {
-        return Ok(None);
-    };
-    let found = port(alloc, behind)?;
-    Ok(Some(found))
-}
-
-fn with_ports<'t, 'a>(
-    held: NetList<'t, 'a>,
-    next: NetList<'t, 'a>,
-) -> Result<NetList<'t, 'a>, ReadFault>
-    ensures { Gives nets_view result (Some ((nets_view held.entry).0 ++ (nets_view next.entry).0, (nets_view next.entry).1)) }
-{
-    let NetList { mut nets, .. } = held;
-    let NetList {
-        nets: mut others,
-        rest,
-    } = next;
-    nets.append(&mut others)?;
-    Ok(NetList { nets, rest })
-}
-
-/// One or more groups of ports with commas between them.
-fn port_list<'t, 'a>(alloc: Global, tokens: &'t [Token<'a>]) -> Result<NetList<'t, 'a>, ReadFault>
-    ensures { Gives nets_view result (port_list (views tokens.now)) }
-{
-    let mut held = port(alloc, tokens)?;
-    'next: for turn in 0..tokens.len() {
-        let Some(found) = comma_port(alloc, held.rest)? else {
-            return Ok(held);
-        };
-        held = with_ports(held, found)?;
+impl Reader<'_> {
+    /// Goes on behind an optional `wire`.
+    fn without_wire(&mut self)
+        ensures read { ahead self.new.tokens ≡ without_wire (ahead self.old.tokens) (after_word KeyWire (ahead self.old.tokens)) }
+        ensures few { length (ahead self.new.tokens) ≤ length (ahead self.old.tokens) }
+        ensures stack { self.new.stack ≡ self.old.stack }
+        ensures words { self.new.words ≡ self.old.words }
+    {
+        self.word(Key::Wire);
     }
-    Err(ReadFault::Syntax)
-}
 
-fn header_behind<'t, 'a>(
-    alloc: Global,
-    name: &'a str,
-    ports: NetList<'t, 'a>,
-) -> Result<HeaderFound<'t, 'a>, ReadFault>
-    ensures { Gives header_view result (header_behind name.now (nets_view ports.entry)) }
-{
-    let NetList { nets, rest } = ports;
-    let rest = want_mark(Sign::Close, rest)?;
-    let rest = want_mark(Sign::Semicolon, rest)?;
-    let name = String::from_str(alloc, name)?;
-    Ok(HeaderFound { name, nets, rest })
-}
+    /// What stands behind `output`.
+    fn output_from(&mut self) -> NetKind
+        ensures read { (result, ahead self.new.tokens) ≡ output_from (ahead self.old.tokens) (after_word KeyReg (ahead self.old.tokens)) }
+        ensures few { length (ahead self.new.tokens) ≤ length (ahead self.old.tokens) }
+        ensures stack { self.new.stack ≡ self.old.stack }
+        ensures words { self.new.words ≡ self.old.words }
+    {
+        if self.word(Key::Reg) {
+            return NetKind::OutReg;
+        }
+        self.without_wire();
+        NetKind::OutWire
+    }
 
-/// A module's header: its name and its ports.
-pub fn header<'t, 'a>(
-    alloc: Global,
-    tokens: &'t [Token<'a>],
-) -> Result<HeaderFound<'t, 'a>, ReadFault>
-    ensures { Gives header_view result (header (views tokens.now)) }
-{
-    let behind = want_word(Key::Module, tokens)?;
-    let Some((name, behind)) = first_name(behind) else {
-        return Err(ReadFault::Syntax);
-    };
-    let behind = want_mark(Sign::Open, behind)?;
-    header_behind(alloc, name, port_list(alloc, behind)?)
+    /// What a group of ports begins with.
+    fn port_head(&mut self) -> Result<NetKind, ReadFault>
+        ensures read { Heads (ahead self.new.tokens) result (port_head (ahead self.old.tokens)) }
+        ensures few { OnOk result (length (ahead self.new.tokens) ≤ length (ahead self.old.tokens)) }
+        ensures stack { self.new.stack ≡ self.old.stack }
+        ensures words { self.new.words ≡ self.old.words }
+    {
+        if self.word(Key::Input) {
+            self.without_wire();
+            return Ok(NetKind::Input);
+        }
+        self.want_word(Key::Output)?;
+        Ok(self.output_from())
+    }
+
+    /// A group of ports.
+    fn port(&mut self, nets: &mut Vec<VNet>) -> Result<(), ReadFault>
+        ensures read { ReadsList net_tree nets.old.items nets.new.items self.old.words self.new result (port (ahead self.old.tokens)) }
+        ensures few { OnOk result (used self.new + 1 ≤ used self.old) }
+        ensures stack { OnOk result (held self.new.stack ≡ held self.old.stack) }
+    {
+        let kind = self.port_head()?;
+        let high = self.range()?;
+        self.net_list(nets, high, kind, 0)
+    }
+
+    /// Behind a comma, a group of ports.
+    fn comma_port(&mut self, nets: &mut Vec<VNet>) -> Result<bool, ReadFault>
+        ensures read { StepsList net_tree nets.old.items nets.new.items self.old.words self.new result (with_comma port (ahead self.old.tokens)) (ahead self.old.tokens) }
+        ensures few { OnOk result (used self.new ≤ used self.old) }
+        ensures stack { OnOk result (held self.new.stack ≡ held self.old.stack) }
+    {
+        if !self.mark(Sign::Comma) {
+            return Ok(false);
+        }
+        self.port(nets)?;
+        Ok(true)
+    }
+
+    /// One or more groups of ports with commas between them.
+    fn port_list(&mut self, nets: &mut Vec<VNet>) -> Result<(), ReadFault>
+        ensures read { ReadsList net_tree nets.old.items nets.new.items self.old.words self.new result (port_list (ahead self.old.tokens)) }
+        ensures few { OnOk result (used self.new + 1 ≤ used self.old) }
+        ensures stack { OnOk result (held self.new.stack ≡ held self.old.stack) }
+    {
+        let most = self.tokens.len();
+        self.port(nets)?;
+        'next: for turn in 0..most {
+            if !self.comma_port(nets)? {
+                return Ok(());
+            }
+        }
+        Err(ReadFault::Syntax)
+    }
+
+    /// A module's header: its name, and its ports behind other nets.
+    pub fn header(&mut self, nets: &mut Vec<VNet>) -> Result<u32, ReadFault>
+        ensures read { ReadsHeader nets.old.items nets.new.items self.old.words self.new result (header (ahead self.old.tokens)) }
+        ensures few { OnOk result (used self.new ≤ used self.old) }
+        ensures stack { OnOk result (held self.new.stack ≡ held self.old.stack) }
+    {
+        self.want_word(Key::Module)?;
+        let name = self.want_name()?;
+        self.want_mark(Sign::Open)?;
+        self.port_list(nets)?;
+        self.want_mark(Sign::Close)?;
+        self.want_mark(Sign::Semicolon)?;
+        Ok(name)
+    }
 }

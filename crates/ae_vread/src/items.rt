@@ -1,196 +1,183 @@
 // Reading a module's items from the tokens.
 
-ghost use Rattle.std.specs.Prelude.{◌≡◌, map, true, false, Some};
-ghost use Rattle.ae_vtoken.specs.Scan.{views};
-ghost use Rattle.ae_vread.specs.View.{net_tree, drive_tree};
-ghost use Rattle.ae_vread.specs.ItemReading.{has_equals, drive_nets, wires, regs, assign_from, clock_from, always_from, wire_item, reg_item, item_at};
-ghost use Rattle.ae_vread.specs.ReadView.{Gives};
-ghost use Rattle.ae_vread.specs.ItemView.{item_view};
+ghost use Rattle.std.specs.Prelude.{◌≡◌, ◌≤◌, List, OnOk, length, true, false};
+ghost use Rattle.ae_vtoken.specs.Ahead.{ahead};
+ghost use Rattle.ae_vread.specs.Held.{held};
+ghost use Rattle.ae_vread.specs.ItemReading.{always_from, assign_from, clock_from, has_equals, item_at, reg_item, wire_item, wires};
+ghost use Rattle.ae_vread.specs.Read.{Clocks};
+ghost use Rattle.ae_vread.specs.ReadExpr.{used};
+ghost use Rattle.ae_vread.specs.ReadList.{Declares, ReadsItem};
+ghost use Rattle.ae_vread.specs.Words.{Extends};
+ghost use Rattle.ae_vread.specs.declared.module.VNet.{VNet};
 
-use crate::lists::{DriveList, NetList, drive_list, net, net_list, range, reg_list};
+use crate::lists::net;
 use crate::module::{Drive, NetKind, VItem, VNet};
-use crate::reading::{ReadFault, after_mark, first_name, want_mark, want_word};
-use crate::statements::{StmtFound, whole_statement};
+use crate::reading::{ReadFault, Reader, is_mark};
 use ae_vtoken::{Key, Sign, Token};
 use std::alloc::Global;
 
-/// An item, what it declares, and the tokens behind it.
-#[derive(Drop)]
-pub struct ItemFound<'t, 'a> {
-    pub nets: Vec<VNet>,
-    pub item: VItem,
-    pub rest: &'t [Token<'a>],
-}
-
-fn has_equals(tokens: &[Token<'_>]) -> bool
-    ensures { result ≡ has_equals (views tokens.now) }
-{
-    match tokens.split_first() {
-        Some((_, rest)) => after_mark(Sign::Equals, rest).is_some(),
-        None => false,
-    }
-}
-
-/// The names that drives of a declaration declare.
+/// The names that drives of a declaration declare, behind other nets.
 fn drive_nets(
-    alloc: Global,
+    nets: &mut Vec<VNet>,
     drives: &[Drive],
     high: Option<u32>,
     item: u32,
-) -> Result<Vec<VNet>, ReadFault>
-    ensures { Gives (λ v. map net_tree v.items) result (Some (drive_nets high item (map drive_tree drives.now))) }
+) -> Result<(), ReadFault>
+    ensures { Declares nets.old.items nets.new.items result drives.now high item }
 {
-    let mut nets = Vec::new(alloc);
     'each: for drive in drives {
-        let declared = net(alloc, drive.name.as_str(), high, NetKind::Wire, item)?;
-        nets.push(declared)?;
+        nets.push(net(drive.name, high, NetKind::Wire, item))?;
     }
-    Ok(nets)
+    Ok(())
 }
 
-fn wire_drives<'t, 'a>(
-    alloc: Global,
-    item: u32,
-    high: Option<u32>,
-    tokens: &'t [Token<'a>],
-) -> Result<ItemFound<'t, 'a>, ReadFault>
-    ensures { Gives item_view result (wires item high (views tokens.now) true) }
-{
-    let DriveList { drives, rest } = drive_list(alloc, tokens)?;
-    let rest = want_mark(Sign::Semicolon, rest)?;
-    let nets = drive_nets(alloc, &drives, high, item)?;
-    Ok(ItemFound {
-        nets,
-        item: VItem::Nets(drives),
-        rest,
-    })
-}
-
-fn wire_names<'t, 'a>(
-    alloc: Global,
-    item: u32,
-    high: Option<u32>,
-    tokens: &'t [Token<'a>],
-) -> Result<ItemFound<'t, 'a>, ReadFault>
-    ensures { Gives item_view result (wires item high (views tokens.now) false) }
-{
-    let NetList { nets, rest } = net_list(alloc, high, NetKind::Wire, item, tokens)?;
-    let rest = want_mark(Sign::Semicolon, rest)?;
-    Ok(ItemFound {
-        nets,
-        item: VItem::Nets(Vec::new(alloc)),
-        rest,
-    })
-}
-
-fn wire_item<'t, 'a>(
-    alloc: Global,
-    item: u32,
-    tokens: &'t [Token<'a>],
-) -> Result<ItemFound<'t, 'a>, ReadFault>
-    ensures { Gives item_view result (wire_item item (views tokens.now)) }
-{
-    let (high, behind) = range(tokens)?;
-    if has_equals(behind) {
-        wire_drives(alloc, item, high, behind)
-    } else {
-        wire_names(alloc, item, high, behind)
+impl Reader<'_> {
+    /// Whether `=` stands behind the first token.
+    fn has_equals(&self) -> bool
+        ensures { result ≡ has_equals (ahead self.now.tokens) }
+    {
+        is_mark(Sign::Equals, self.tokens.rest().first())
     }
-}
 
-fn reg_item<'t, 'a>(
-    alloc: Global,
-    item: u32,
-    tokens: &'t [Token<'a>],
-) -> Result<ItemFound<'t, 'a>, ReadFault>
-    ensures { Gives item_view result (reg_item item (views tokens.now)) }
-{
-    let (high, behind) = range(tokens)?;
-    regs(alloc, item, high, behind)
-}
+    /// Drives of a declaration, up to its semicolon.
+    fn wire_drives(
+        &mut self,
+        alloc: Global,
+        nets: &mut Vec<VNet>,
+        high: Option<u32>,
+        item: u32,
+    ) -> Result<VItem, ReadFault>
+        ensures read { ReadsItem nets.old.items nets.new.items self.old.words self.new result (wires item high (ahead self.old.tokens) true) }
+        ensures few { OnOk result (used self.new ≤ used self.old) }
+        ensures stack { OnOk result (held self.new.stack ≡ held self.old.stack) }
+    {
+        let mut drives = Vec::with_capacity(alloc, 1)?;
+        self.drive_list(&mut drives)?;
+        self.want_mark(Sign::Semicolon)?;
+        drive_nets(nets, &drives, high, item)?;
+        Ok(VItem::Nets(drives))
+    }
 
-fn regs<'t, 'a>(
-    alloc: Global,
-    item: u32,
-    high: Option<u32>,
-    tokens: &'t [Token<'a>],
-) -> Result<ItemFound<'t, 'a>, ReadFault>
-    ensures { Gives item_view result (regs item high (views tokens.now)) }
-{
-    let NetList { nets, rest } = reg_list(alloc, high, item, tokens)?;
-    let rest = want_mark(Sign::Semicolon, rest)?;
-    Ok(ItemFound {
-        nets,
-        item: VItem::Nets(Vec::new(alloc)),
-        rest,
-    })
-}
+    /// Names of a declaration, up to its semicolon.
+    fn wire_names(
+        &mut self,
+        alloc: Global,
+        nets: &mut Vec<VNet>,
+        high: Option<u32>,
+        item: u32,
+    ) -> Result<VItem, ReadFault>
+        ensures read { ReadsItem nets.old.items nets.new.items self.old.words self.new result (wires item high (ahead self.old.tokens) false) }
+        ensures few { OnOk result (used self.new ≤ used self.old) }
+        ensures stack { OnOk result (held self.new.stack ≡ held self.old.stack) }
+    {
+        self.net_list(nets, high, NetKind::Wire, item)?;
+        self.want_mark(Sign::Semicolon)?;
+        Ok(VItem::Nets(Vec::new(alloc)))
+    }
 
-fn assign_from<'t, 'a>(
-    alloc: Global,
-    tokens: &'t [Token<'a>],
-) -> Result<ItemFound<'t, 'a>, ReadFault>
-    ensures { Gives item_view result (assign_from (views tokens.now)) }
-{
-    let DriveList { drives, rest } = drive_list(alloc, tokens)?;
-    let rest = want_mark(Sign::Semicolon, rest)?;
-    Ok(ItemFound {
-        nets: Vec::new(alloc),
-        item: VItem::Assign(drives),
-        rest,
-    })
-}
+    /// Behind `wire`, a declaration.
+    fn wire_item(
+        &mut self,
+        alloc: Global,
+        nets: &mut Vec<VNet>,
+        item: u32,
+    ) -> Result<VItem, ReadFault>
+        ensures read { ReadsItem nets.old.items nets.new.items self.old.words self.new result (wire_item item (ahead self.old.tokens)) }
+        ensures few { OnOk result (used self.new ≤ used self.old) }
+        ensures stack { OnOk result (held self.new.stack ≡ held self.old.stack) }
+    {
+        let high = self.range()?;
+        if self.has_equals() {
+            return self.wire_drives(alloc, nets, high, item);
+        }
+        self.wire_names(alloc, nets, high, item)
+    }
 
-/// The clock of an `always` item, in its parentheses.
-fn clock_from<'t, 'a>(tokens: &'t [Token<'a>]) -> Result<(&'a str, &'t [Token<'a>]), ReadFault>
-    ensures { Gives (λ x. (x.0.now, views x.1.now)) result (clock_from (views tokens.now)) }
-{
-    let behind = want_mark(Sign::At, tokens)?;
-    let behind = want_mark(Sign::Open, behind)?;
-    let behind = want_word(Key::Posedge, behind)?;
-    let Some((clock, behind)) = first_name(behind) else {
-        return Err(ReadFault::Syntax);
-    };
-    let rest = want_mark(Sign::Close, behind)?;
-    Ok((clock, rest))
-}
+    /// Behind `reg`, a declaration.
+    fn reg_item(
+        &mut self,
+        alloc: Global,
+        nets: &mut Vec<VNet>,
+        item: u32,
+    ) -> Result<VItem, ReadFault>
+        ensures read { ReadsItem nets.old.items nets.new.items self.old.words self.new result (reg_item item (ahead self.old.tokens)) }
+        ensures few { OnOk result (used self.new ≤ used self.old) }
+        ensures stack { OnOk result (held self.new.stack ≡ held self.old.stack) }
+    {
+        let high = self.range()?;
+        self.reg_list(nets, high, item)?;
+        self.want_mark(Sign::Semicolon)?;
+        Ok(VItem::Nets(Vec::new(alloc)))
+    }
 
-fn always_from<'t, 'a>(
-    alloc: Global,
-    tokens: &'t [Token<'a>],
-) -> Result<ItemFound<'t, 'a>, ReadFault>
-    ensures { Gives item_view result (always_from (views tokens.now)) }
-{
-    let (clock, behind) = clock_from(tokens)?;
-    let clock = String::from_str(alloc, clock)?;
-    let StmtFound {
-        tree: body,
-        rest,
-        ..
-    } = whole_statement(alloc, behind)?;
-    Ok(ItemFound {
-        nets: Vec::new(alloc),
-        item: VItem::Always { clock, body },
-        rest,
-    })
-}
+    /// Behind `assign`, its drives.
+    fn assign_from(&mut self, alloc: Global) -> Result<VItem, ReadFault>
+        ensures read { (nets : List VNet) → ReadsItem nets nets self.old.words self.new result (assign_from (ahead self.old.tokens)) }
+        ensures few { OnOk result (used self.new ≤ used self.old) }
+        ensures stack { OnOk result (held self.new.stack ≡ held self.old.stack) }
+    {
+        let mut drives = Vec::with_capacity(alloc, 1)?;
+        self.drive_list(&mut drives)?;
+        self.want_mark(Sign::Semicolon)?;
+        Ok(VItem::Assign(drives))
+    }
 
-/// The item with this number.
-pub fn item_at<'t, 'a>(
-    alloc: Global,
-    item: u32,
-    tokens: &'t [Token<'a>],
-) -> Result<ItemFound<'t, 'a>, ReadFault>
-    ensures { Gives item_view result (item_at item (views tokens.now)) }
-{
-    let Some((first, rest)) = tokens.split_first() else {
-        return Err(ReadFault::Syntax);
-    };
-    match first {
-        Token::Word(Key::Wire) => wire_item(alloc, item, rest),
-        Token::Word(Key::Reg) => reg_item(alloc, item, rest),
-        Token::Word(Key::Assign) => assign_from(alloc, rest),
-        Token::Word(Key::Always) => always_from(alloc, rest),
-        _ => Err(ReadFault::Syntax),
+    /// The clock of an `always` item, in its parentheses.
+    fn clock_from(&mut self) -> Result<u32, ReadFault>
+        ensures read { Clocks (ahead self.new.tokens) self.new.words result (clock_from (ahead self.old.tokens)) }
+        ensures few { OnOk result (length (ahead self.new.tokens) ≤ length (ahead self.old.tokens)) }
+        ensures stack { self.new.stack ≡ self.old.stack }
+        ensures words { Extends self.old.words self.new.words }
+    {
+        self.want_mark(Sign::At)?;
+        self.want_mark(Sign::Open)?;
+        self.want_word(Key::Posedge)?;
+        let clock = self.want_name()?;
+        self.want_mark(Sign::Close)?;
+        Ok(clock)
+    }
+
+    /// Behind `always`, its clock and its statement.
+    fn always_from(&mut self) -> Result<VItem, ReadFault>
+        ensures read { (nets : List VNet) → ReadsItem nets nets self.old.words self.new result (always_from (ahead self.old.tokens)) }
+        ensures few { OnOk result (used self.new ≤ used self.old) }
+        ensures stack { OnOk result (held self.new.stack ≡ held self.old.stack) }
+    {
+        let clock = self.clock_from()?;
+        self.whole_statement()?;
+        let body = self.stack.take_stmt()?;
+        Ok(VItem::Always { clock, body })
+    }
+
+    /// The item with this number; what it declares goes behind the nets.
+    pub fn item_at(
+        &mut self,
+        alloc: Global,
+        nets: &mut Vec<VNet>,
+        item: u32,
+    ) -> Result<VItem, ReadFault>
+        ensures read { ReadsItem nets.old.items nets.new.items self.old.words self.new result (item_at item (ahead self.old.tokens)) }
+        ensures few { OnOk result (used self.new ≤ used self.old) }
+        ensures stack { OnOk result (held self.new.stack ≡ held self.old.stack) }
+    {
+        match self.tokens.first() {
+            Some(Token::Word(Key::Wire)) => {
+                self.skip();
+                self.wire_item(alloc, nets, item)
+            }
+            Some(Token::Word(Key::Reg)) => {
+                self.skip();
+                self.reg_item(alloc, nets, item)
+            }
+            Some(Token::Word(Key::Assign)) => {
+                self.skip();
+                self.assign_from(alloc)
+            }
+            Some(Token::Word(Key::Always)) => {
+                self.skip();
+                self.always_from()
+            }
+            _ => Err(ReadFault::Syntax),
+        }
     }
 }

@@ -8,8 +8,14 @@ mod lists;
 mod module;
 mod reader;
 mod reading;
+mod roots;
+mod stack;
 mod statements;
+mod symbols;
+mod words;
 
-pub use ae_vtoken::{Key, Sign, Token, TokenFault, tokens};
-pub use module::{BinOp, Drive, Expr, NetKind, Stmt, UnOp, VItem, VModule, VNet};
+pub use ae_vtoken::{BadToken, Key, Sign, Token};
+pub use module::{BinOp, Drive, NetKind, UnOp, VItem, VModule, VNet};
 pub use reader::{VFault, read};
+pub use symbols::{Code, Expr, Root, Stmt, StmtCode, StmtRoot};
+pub use words::Words;

@@ -1,48 +1,20 @@
 // Reading lists of names, registers and drives from the tokens.
 
-ghost use Rattle.std.specs.Prelude.{◌≡◌, ◌++◌, Some, option_map};
-ghost use Rattle.ae_vtoken.specs.Scan.{views};
-ghost use Rattle.ae_vread.specs.View.{net_tree};
-ghost use Rattle.ae_vread.specs.TokenTests.{after_mark};
-ghost use Rattle.ae_vread.specs.ItemReading.{one_more, net_by, one_net, comma_net, net_list, after_zero, range, reg_from, one_reg, with_comma, reg_list, drive_tree_of, one_drive, drive_list};
-ghost use Rattle.ae_vread.specs.ReadView.{Gives};
-ghost use Rattle.ae_vread.specs.ListView.{net_found, nets_view, drive_found, drives_view};
+ghost use Rattle.std.specs.Prelude.{◌≡◌, ◌≤◌, ◌+◌, ℕ, List, OnOk, Some, length, option_map, slice_get};
+ghost use Rattle.ae_vtoken.specs.Ahead.{ahead};
+ghost use Rattle.ae_vread.specs.ItemReading.{after_zero, comma_net, drive_list, drive_tree_of, is_zero_first, net_by, net_list, one_drive, one_more, one_net, one_reg, range, reg_from, reg_list, with_comma};
+ghost use Rattle.ae_vread.specs.Held.{held};
+ghost use Rattle.ae_vread.specs.ReadExpr.{used};
+ghost use Rattle.ae_vread.specs.ReadList.{ReadsList, StepsList};
+ghost use Rattle.ae_vread.specs.View.{drive_tree, net_tree};
 ghost use Rattle.ae_vtoken.specs.declared.token.Sign.TheVariants.{OpenBracket};
+ghost use Rattle.ae_vread.specs.TokenTests.{after_mark, first_number};
+ghost use Rattle.ae_vtoken.specs.Scan.{token_view};
+ghost use Rattle.ae_vread.specs.Read.{Numbers, Ranges, Steps, net_of};
 
-use crate::expressions::whole_expression;
-use crate::module::{Drive, Expr, NetKind, VNet};
-use crate::reading::{Found, ReadFault, after_mark, first_name, want_mark, want_number};
+use crate::module::{Drive, NetKind, VNet};
+use crate::reading::{ReadFault, Reader};
 use ae_vtoken::{Sign, Token};
-use std::alloc::Global;
-
-/// A declared name, and the tokens behind it.
-#[derive(Drop)]
-pub struct NetFound<'t, 'a> {
-    pub net: VNet,
-    pub rest: &'t [Token<'a>],
-}
-
-/// Declared names, and the tokens behind them.
-#[derive(Drop)]
-pub struct NetList<'t, 'a> {
-    pub nets: Vec<VNet>,
-    pub rest: &'t [Token<'a>],
-}
-
-/// A drive in its parts, and the tokens behind it.
-#[derive(Drop)]
-pub struct DriveFound<'t, 'a> {
-    pub name: String,
-    pub value: Box<Expr>,
-    pub rest: &'t [Token<'a>],
-}
-
-/// Drives, and the tokens behind them.
-#[derive(Drop)]
-pub struct DriveList<'t, 'a> {
-    pub drives: Vec<Drive>,
-    pub rest: &'t [Token<'a>],
-}
 
 /// One more, up to the greatest `u32`.
 fn one_more(n: u32) -> u32
@@ -52,282 +24,270 @@ fn one_more(n: u32) -> u32
 }
 
 /// A declared name: its width is one more than the number in front of its range's colon, and 1 without a range.
-pub fn net(
-    alloc: Global,
-    name: &str,
-    high: Option<u32>,
-    kind: NetKind,
-    item: u32,
-) -> Result<VNet, ReadFault>
-    ensures { Gives net_tree result (Some (net_by high kind item name.now)) }
+pub fn net(name: u32, high: Option<u32>, kind: NetKind, item: u32) -> VNet
+    ensures { result ≡ net_of name high kind item }
 {
-    let name = String::from_str(alloc, name)?;
     match high {
-        None => Ok(VNet {
+        None => VNet {
             name,
             width: 1,
             ranged: false,
             kind,
             item,
-        }),
-        Some(high) => Ok(VNet {
+        },
+        Some(high) => VNet {
             name,
             width: one_more(high),
             ranged: true,
             kind,
             item,
-        }),
+        },
     }
 }
 
-fn want_zero<'t, 'a>(tokens: &'t [Token<'a>]) -> Result<&'t [Token<'a>], ReadFault>
-    ensures { Gives (λ ts. views ts.now) result (after_zero (views tokens.now)) }
+fn is_zero(token: Option<Token<'_>>) -> bool
+    ensures { result ≡ is_zero_first (option_map token_view token.entry) }
 {
-    match tokens.split_first() {
-        Some((Token::Zero, rest)) => Ok(rest),
-        _ => Err(ReadFault::Syntax),
+    matches!(token, Some(Token::Zero))
+}
+
+impl Reader<'_> {
+    fn want_zero(&mut self) -> Result<(), ReadFault>
+        ensures read { Steps (ahead self.new.tokens) result (after_zero (ahead self.old.tokens)) }
+        ensures shorter { OnOk result (length (ahead self.new.tokens) + 1 ≡ length (ahead self.old.tokens)) }
+        ensures stack { self.new.stack ≡ self.old.stack }
+        ensures words { self.new.words ≡ self.old.words }
+    {
+        if is_zero(self.tokens.first()) {
+            self.skip();
+            Ok(())
+        } else {
+            Err(ReadFault::Syntax)
+        }
+    }
+
+    /// A decimal number, which has to stand in front.
+    fn want_number(&mut self) -> Result<u32, ReadFault>
+        ensures read { Numbers (ahead self.new.tokens) result (first_number (ahead self.old.tokens)) }
+        ensures shorter { OnOk result (length (ahead self.new.tokens) + 1 ≡ length (ahead self.old.tokens)) }
+        ensures stack { self.new.stack ≡ self.old.stack }
+        ensures words { self.new.words ≡ self.old.words }
+    {
+        match self.number() {
+            Some(number) => Ok(number),
+            None => Err(ReadFault::Syntax),
+        }
+    }
+
+    /// The number in front of the colon of a range, if there is a range.
+    pub fn range(&mut self) -> Result<Option<u32>, ReadFault>
+        ensures read { Ranges (ahead self.new.tokens) result (range (ahead self.old.tokens)) }
+        ensures few { OnOk result (length (ahead self.new.tokens) ≤ length (ahead self.old.tokens)) }
+        ensures stack { self.new.stack ≡ self.old.stack }
+        ensures words { self.new.words ≡ self.old.words }
+    {
+        if !self.mark(Sign::OpenBracket) {
+            return Ok(None);
+        }
+        let high = self.want_number()?;
+        self.want_mark(Sign::Colon)?;
+        self.want_zero()?;
+        self.want_mark(Sign::CloseBracket)?;
+        Ok(Some(high))
     }
 }
 
-/// The number in front of the colon of a range, if there is a range.
-pub fn range<'t, 'a>(tokens: &'t [Token<'a>]) -> Result<(Option<u32>, &'t [Token<'a>]), ReadFault>
-    ensures { Gives (λ x. (x.0, views x.1.now)) result (range (views tokens.now)) }
-{
-    let Some(inside) = after_mark(Sign::OpenBracket, tokens) else {
-        return Ok((None, tokens));
-    };
-    let (high, behind) = want_number(inside)?;
-    let behind = want_mark(Sign::Colon, behind)?;
-    let behind = want_zero(behind)?;
-    let rest = want_mark(Sign::CloseBracket, behind)?;
-    Ok((Some(high), rest))
-}
-
-fn started<'t, 'a>(alloc: Global, first: NetFound<'t, 'a>) -> Result<NetList<'t, 'a>, ReadFault>
-    ensures { Gives nets_view result (Some (net_found first.entry)) }
-{
-    let NetFound { net, rest } = first;
-    let mut nets = Vec::new(alloc);
-    nets.push(net)?;
-    Ok(NetList { nets, rest })
-}
-
-fn with_net<'t, 'a>(
-    held: NetList<'t, 'a>,
-    next: NetFound<'t, 'a>,
-) -> Result<NetList<'t, 'a>, ReadFault>
-    ensures { Gives nets_view result (Some ((nets_view held.entry).0 ++ (net_found next.entry).0, (net_found next.entry).1)) }
-{
-    let NetList { mut nets, .. } = held;
-    let NetFound { net, rest } = next;
-    nets.push(net)?;
-    Ok(NetList { nets, rest })
-}
-
-fn one_net<'t, 'a>(
-    alloc: Global,
-    high: Option<u32>,
-    kind: NetKind,
-    item: u32,
-    tokens: &'t [Token<'a>],
-) -> Result<NetFound<'t, 'a>, ReadFault>
-    ensures { Gives net_found result (one_net (net_by high kind item) (views tokens.now)) }
-{
-    let Some((name, rest)) = first_name(tokens) else {
-        return Err(ReadFault::Syntax);
-    };
-    let net = net(alloc, name, high, kind, item)?;
-    Ok(NetFound { net, rest })
-}
-
-/// A comma and a name, if both stand in front.
-fn comma_net<'t, 'a>(
-    alloc: Global,
-    high: Option<u32>,
-    kind: NetKind,
-    item: u32,
-    tokens: &'t [Token<'a>],
-) -> Result<Option<NetFound<'t, 'a>>, ReadFault>
-    ensures { Gives (λ o. option_map net_found o) result (comma_net (net_by high kind item) (views tokens.now)) }
-{
-    let Some(behind) = after_mark(Sign::Comma, tokens) else {
-        return Ok(None);
-    };
-    let Some((name, rest)) = first_name(behind) else {
-        return Ok(None);
-    };
-    let net = net(alloc, name, high, kind, item)?;
-    Ok(Some(NetFound { net, rest }))
-}
-
-/// One or more names with commas between them.
-pub fn net_list<'t, 'a>(
-    alloc: Global,
-    high: Option<u32>,
-    kind: NetKind,
-    item: u32,
-    tokens: &'t [Token<'a>],
-) -> Result<NetList<'t, 'a>, ReadFault>
-    ensures { Gives nets_view result (net_list (net_by high kind item) (views tokens.now)) }
-{
-    let mut held = started(alloc, one_net(alloc, high, kind, item, tokens)?)?;
-    'next: for turn in 0..tokens.len() {
-        let Some(found) = comma_net(alloc, high, kind, item, held.rest)? else {
-            return Ok(held);
-        };
-        held = with_net(held, found)?;
+impl Reader<'_> {
+    /// A declared name.
+    fn one_net(
+        &mut self,
+        nets: &mut Vec<VNet>,
+        high: Option<u32>,
+        kind: NetKind,
+        item: u32,
+    ) -> Result<(), ReadFault>
+        ensures read { ReadsList net_tree nets.old.items nets.new.items self.old.words self.new result (one_net (net_by high kind item) (ahead self.old.tokens)) }
+        ensures few { OnOk result (used self.new + 1 ≤ used self.old) }
+        ensures stack { OnOk result (held self.new.stack ≡ held self.old.stack) }
+    {
+        let name = self.want_name()?;
+        nets.push(net(name, high, kind, item))?;
+        Ok(())
     }
-    Err(ReadFault::Syntax)
-}
 
-/// A register or a memory behind its name.
-fn reg_from<'t, 'a>(
-    alloc: Global,
-    name: &'a str,
-    high: Option<u32>,
-    item: u32,
-    tokens: &'t [Token<'a>],
-) -> Result<NetFound<'t, 'a>, ReadFault>
-    ensures { Gives net_found result (reg_from high item name.now (views tokens.now) (after_mark OpenBracket (views tokens.now))) }
-{
-    let Some(inside) = after_mark(Sign::OpenBracket, tokens) else {
-        let net = net(alloc, name, high, NetKind::Reg, item)?;
-        return Ok(NetFound { net, rest: tokens });
-    };
-    let behind = want_zero(inside)?;
-    let behind = want_mark(Sign::Colon, behind)?;
-    let (last, behind) = want_number(behind)?;
-    let rest = want_mark(Sign::CloseBracket, behind)?;
-    let net = net(alloc, name, high, NetKind::Memory(one_more(last)), item)?;
-    Ok(NetFound { net, rest })
-}
-
-fn one_reg<'t, 'a>(
-    alloc: Global,
-    high: Option<u32>,
-    item: u32,
-    tokens: &'t [Token<'a>],
-) -> Result<NetFound<'t, 'a>, ReadFault>
-    ensures { Gives net_found result (one_reg high item (views tokens.now)) }
-{
-    let Some((name, behind)) = first_name(tokens) else {
-        return Err(ReadFault::Syntax);
-    };
-    reg_from(alloc, name, high, item, behind)
-}
-
-fn comma_reg<'t, 'a>(
-    alloc: Global,
-    high: Option<u32>,
-    item: u32,
-    tokens: &'t [Token<'a>],
-) -> Result<Option<NetFound<'t, 'a>>, ReadFault>
-    ensures { Gives (λ o. option_map net_found o) result (with_comma (one_reg high item) (views tokens.now)) }
-{
-    let Some(behind) = after_mark(Sign::Comma, tokens) else {
-        return Ok(None);
-    };
-    let found = one_reg(alloc, high, item, behind)?;
-    Ok(Some(found))
-}
-
-/// One or more registers and memories with commas between them.
-pub fn reg_list<'t, 'a>(
-    alloc: Global,
-    high: Option<u32>,
-    item: u32,
-    tokens: &'t [Token<'a>],
-) -> Result<NetList<'t, 'a>, ReadFault>
-    ensures { Gives nets_view result (reg_list high item (views tokens.now)) }
-{
-    let mut held = started(alloc, one_reg(alloc, high, item, tokens)?)?;
-    'next: for turn in 0..tokens.len() {
-        let Some(found) = comma_reg(alloc, high, item, held.rest)? else {
-            return Ok(held);
-        };
-        held = with_net(held, found)?;
+    /// A comma and a name, if both stand in front.
+    fn comma_net(
+        &mut self,
+        nets: &mut Vec<VNet>,
+        high: Option<u32>,
+        kind: NetKind,
+        item: u32,
+    ) -> Result<bool, ReadFault>
+        ensures read { StepsList net_tree nets.old.items nets.new.items self.old.words self.new result (comma_net (net_by high kind item) (ahead self.old.tokens)) (ahead self.old.tokens) }
+        ensures few { OnOk result (used self.new ≤ used self.old) }
+        ensures stack { OnOk result (held self.new.stack ≡ held self.old.stack) }
+    {
+        let before = self.tokens;
+        if self.mark(Sign::Comma) {
+            let found = self.name()?;
+            if let Some(name) = found {
+                nets.push(net(name, high, kind, item))?;
+                return Ok(true);
+            }
+        }
+        self.tokens = before;
+        Ok(false)
     }
-    Err(ReadFault::Syntax)
-}
 
-/// A drive behind its name and `=`.
-fn drive_from<'t, 'a>(
-    alloc: Global,
-    name: &'a str,
-    tokens: &'t [Token<'a>],
-) -> Result<DriveFound<'t, 'a>, ReadFault>
-    ensures { Gives drive_found result (drive_tree_of name.now (views tokens.now)) }
-{
-    let Found {
-        tree: value,
-        rest,
-        ..
-    } = whole_expression(alloc, tokens)?;
-    let name = String::from_str(alloc, name)?;
-    Ok(DriveFound { name, value, rest })
-}
-
-fn one_drive<'t, 'a>(
-    alloc: Global,
-    tokens: &'t [Token<'a>],
-) -> Result<DriveFound<'t, 'a>, ReadFault>
-    ensures { Gives drive_found result (one_drive (views tokens.now)) }
-{
-    let Some((name, behind)) = first_name(tokens) else {
-        return Err(ReadFault::Syntax);
-    };
-    drive_from(alloc, name, want_mark(Sign::Equals, behind)?)
-}
-
-fn comma_drive<'t, 'a>(
-    alloc: Global,
-    tokens: &'t [Token<'a>],
-) -> Result<Option<DriveFound<'t, 'a>>, ReadFault>
-    ensures { Gives (λ o. option_map drive_found o) result (with_comma one_drive (views tokens.now)) }
-{
-    let Some(behind) = after_mark(Sign::Comma, tokens) else {
-        return Ok(None);
-    };
-    let found = one_drive(alloc, behind)?;
-    Ok(Some(found))
-}
-
-fn driven<'t, 'a>(alloc: Global, first: DriveFound<'t, 'a>) -> Result<DriveList<'t, 'a>, ReadFault>
-    ensures { Gives drives_view result (Some (drive_found first.entry)) }
-{
-    let mut drives = Vec::with_capacity(alloc, 1)?;
-    let DriveFound { name, value, rest } = first;
-    let value = Box::into_inner(value);
-    drives.push(Drive { name, value })?;
-    Ok(DriveList { drives, rest })
-}
-
-fn with_drive<'t, 'a>(
-    held: DriveList<'t, 'a>,
-    next: DriveFound<'t, 'a>,
-) -> Result<DriveList<'t, 'a>, ReadFault>
-    ensures { Gives drives_view result (Some ((drives_view held.entry).0 ++ (drive_found next.entry).0, (drive_found next.entry).1)) }
-{
-    let DriveList { mut drives, .. } = held;
-    let DriveFound { name, value, rest } = next;
-    let value = Box::into_inner(value);
-    drives.push(Drive { name, value })?;
-    Ok(DriveList { drives, rest })
-}
-
-/// One or more drives with commas between them.
-pub fn drive_list<'t, 'a>(
-    alloc: Global,
-    tokens: &'t [Token<'a>],
-) -> Result<DriveList<'t, 'a>, ReadFault>
-    ensures { Gives drives_view result (drive_list (views tokens.now)) }
-{
-    let mut held = driven(alloc, one_drive(alloc, tokens)?)?;
-    'next: for turn in 0..tokens.len() {
-        let Some(found) = comma_drive(alloc, held.rest)? else {
-            return Ok(held);
-        };
-        held = with_drive(held, found)?;
+    /// One or more names with commas between them.
+    pub fn net_list(
+        &mut self,
+        nets: &mut Vec<VNet>,
+        high: Option<u32>,
+        kind: NetKind,
+        item: u32,
+    ) -> Result<(), ReadFault>
+        ensures read { ReadsList net_tree nets.old.items nets.new.items self.old.words self.new result (net_list (net_by high kind item) (ahead self.old.tokens)) }
+        ensures few { OnOk result (used self.new + 1 ≤ used self.old) }
+        ensures stack { OnOk result (held self.new.stack ≡ held self.old.stack) }
+    {
+        let most = self.tokens.len();
+        self.one_net(nets, high, kind, item)?;
+        'next: for turn in 0..most {
+            if !self.comma_net(nets, high, kind, item)? {
+                return Ok(());
+            }
+        }
+        Err(ReadFault::Syntax)
     }
-    Err(ReadFault::Syntax)
+
+    /// A register or a memory behind its name.
+    fn reg_from(
+        &mut self,
+        name: u32,
+        nets: &mut Vec<VNet>,
+        high: Option<u32>,
+        item: u32,
+    ) -> Result<(), ReadFault>
+        ensures read { (n : List ℕ) → slice_get self.old.words name ≡ Some n → ReadsList net_tree nets.old.items nets.new.items self.old.words self.new result (reg_from high item n (ahead self.old.tokens) (after_mark OpenBracket (ahead self.old.tokens))) }
+        ensures few { OnOk result (used self.new ≤ used self.old) }
+        ensures stack { OnOk result (held self.new.stack ≡ held self.old.stack) }
+    {
+        if !self.mark(Sign::OpenBracket) {
+            nets.push(net(name, high, NetKind::Reg, item))?;
+            return Ok(());
+        }
+        self.want_zero()?;
+        self.want_mark(Sign::Colon)?;
+        let last = self.want_number()?;
+        self.want_mark(Sign::CloseBracket)?;
+        nets.push(net(name, high, NetKind::Memory(one_more(last)), item))?;
+        Ok(())
+    }
+
+    /// A register or a memory.
+    fn one_reg(
+        &mut self,
+        nets: &mut Vec<VNet>,
+        high: Option<u32>,
+        item: u32,
+    ) -> Result<(), ReadFault>
+        ensures read { ReadsList net_tree nets.old.items nets.new.items self.old.words self.new result (one_reg high item (ahead self.old.tokens)) }
+        ensures few { OnOk result (used self.new + 1 ≤ used self.old) }
+        ensures stack { OnOk result (held self.new.stack ≡ held self.old.stack) }
+    {
+        let name = self.want_name()?;
+        self.reg_from(name, nets, high, item)
+    }
+
+    /// Behind a comma, a register or a memory.
+    fn comma_reg(
+        &mut self,
+        nets: &mut Vec<VNet>,
+        high: Option<u32>,
+        item: u32,
+    ) -> Result<bool, ReadFault>
+        ensures read { StepsList net_tree nets.old.items nets.new.items self.old.words self.new result (with_comma (one_reg high item) (ahead self.old.tokens)) (ahead self.old.tokens) }
+        ensures few { OnOk result (used self.new ≤ used self.old) }
+        ensures stack { OnOk result (held self.new.stack ≡ held self.old.stack) }
+    {
+        if !self.mark(Sign::Comma) {
+            return Ok(false);
+        }
+        self.one_reg(nets, high, item)?;
+        Ok(true)
+    }
+
+    /// One or more registers and memories with commas between them.
+    pub fn reg_list(
+        &mut self,
+        nets: &mut Vec<VNet>,
+        high: Option<u32>,
+        item: u32,
+    ) -> Result<(), ReadFault>
+        ensures read { ReadsList net_tree nets.old.items nets.new.items self.old.words self.new result (reg_list high item (ahead self.old.tokens)) }
+        ensures few { OnOk result (used self.new + 1 ≤ used self.old) }
+        ensures stack { OnOk result (held self.new.stack ≡ held self.old.stack) }
+    {
+        let most = self.tokens.len();
+        self.one_reg(nets, high, item)?;
+        'next: for turn in 0..most {
+            if !self.comma_reg(nets, high, item)? {
+                return Ok(());
+            }
+        }
+        Err(ReadFault::Syntax)
+    }
+
+    /// A drive behind its name and `=`.
+    fn drive_from(&mut self, name: u32, drives: &mut Vec<Drive>) -> Result<(), ReadFault>
+        ensures read { (n : List ℕ) → slice_get self.old.words name ≡ Some n → ReadsList drive_tree drives.old.items drives.new.items self.old.words self.new result (drive_tree_of n (ahead self.old.tokens)) }
+        ensures few { OnOk result (used self.new ≤ used self.old) }
+        ensures stack { OnOk result (held self.new.stack ≡ held self.old.stack) }
+    {
+        self.whole_expression()?;
+        let value = self.stack.take_expr()?;
+        drives.push(Drive { name, value })?;
+        Ok(())
+    }
+
+    /// A name, `=` and its value.
+    fn one_drive(&mut self, drives: &mut Vec<Drive>) -> Result<(), ReadFault>
+        ensures read { ReadsList drive_tree drives.old.items drives.new.items self.old.words self.new result (one_drive (ahead self.old.tokens)) }
+        ensures few { OnOk result (used self.new + 1 ≤ used self.old) }
+        ensures stack { OnOk result (held self.new.stack ≡ held self.old.stack) }
+    {
+        let name = self.want_name()?;
+        self.want_mark(Sign::Equals)?;
+        self.drive_from(name, drives)
+    }
+
+    /// Behind a comma, a drive.
+    fn comma_drive(&mut self, drives: &mut Vec<Drive>) -> Result<bool, ReadFault>
+        ensures read { StepsList drive_tree drives.old.items drives.new.items self.old.words self.new result (with_comma one_drive (ahead self.old.tokens)) (ahead self.old.tokens) }
+        ensures few { OnOk result (used self.new ≤ used self.old) }
+        ensures stack { OnOk result (held self.new.stack ≡ held self.old.stack) }
+    {
+        if !self.mark(Sign::Comma) {
+            return Ok(false);
+        }
+        self.one_drive(drives)?;
+        Ok(true)
+    }
+
+    /// One or more drives with commas between them.
+    pub fn drive_list(&mut self, drives: &mut Vec<Drive>) -> Result<(), ReadFault>
+        ensures read { ReadsList drive_tree drives.old.items drives.new.items self.old.words self.new result (drive_list (ahead self.old.tokens)) }
+        ensures few { OnOk result (used self.new + 1 ≤ used self.old) }
+        ensures stack { OnOk result (held self.new.stack ≡ held self.old.stack) }
+    {
+        let most = self.tokens.len();
+        self.one_drive(drives)?;
+        'next: for turn in 0..most {
+            if !self.comma_drive(drives)? {
+                return Ok(());
+            }
+        }
+        Err(ReadFault::Syntax)
+    }
 }

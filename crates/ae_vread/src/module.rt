@@ -1,17 +1,22 @@
 // The parts of a module.
 
-/// A module of the profile: its declared names in text order, ports first, and its items.
+use crate::symbols::{Code, StmtCode};
+use crate::words::Words;
+
+/// A module of the profile: its declared names in text order, ports first, and its items. Names stand by their numbers, those of
+/// the different names of its text.
 #[derive(Drop)]
-pub struct VModule {
-    pub name: String,
+pub struct VModule<'a> {
+    pub words: Words<'a>,
+    pub name: u32,
     pub nets: Vec<VNet>,
     pub items: Vec<VItem>,
 }
 
 /// A declared name. The header is item 0, and items are numbered from 1.
-#[derive(Debug, Drop)]
+#[derive(Clone, Copy, Debug)]
 pub struct VNet {
-    pub name: String,
+    pub name: u32,
     /// In bits; one that does not fit is kept as the greatest `u32`.
     pub width: u32,
     /// Whether its declaration or port group has a range.
@@ -36,54 +41,13 @@ pub enum VItem {
     /// A declaration: the names that it gives a value.
     Nets(Vec<Drive>),
     Assign(Vec<Drive>),
-    Always { clock: String, body: Box<Stmt> },
+    Always { clock: u32, body: StmtCode },
 }
 
 #[derive(Debug, Drop)]
 pub struct Drive {
-    pub name: String,
-    pub value: Expr,
-}
-
-#[derive(Debug, Drop)]
-pub enum Stmt {
-    /// `name <= value;`
-    Set {
-        name: String,
-        value: Expr,
-    },
-    /// `name[at] <= value;`
-    Put {
-        name: String,
-        at: Expr,
-        value: Expr,
-    },
-    If {
-        test: Expr,
-        yes: Box<Stmt>,
-        no: Option<Box<Stmt>>,
-    },
-    Block(Vec<Stmt>),
-}
-
-#[derive(Debug, Drop)]
-pub enum Expr {
-    Name(String),
-    /// A sized constant; where its value does not fit its size, or the size is above 64, `fits` is false and both
-    /// numbers are 0.
-    Const { size: u32, value: u64, fits: bool },
-    /// A decimal number as an index.
-    Place(u32),
-    /// `name[high:low]`
-    Part { name: String, high: u32, low: u32 },
-    /// `name[at]`
-    Index { name: String, at: Box<Expr> },
-    Unary(UnOp, Box<Expr>),
-    Binary(BinOp, Box<Expr>, Box<Expr>),
-    /// `test ? yes : no`
-    Choose(Box<Expr>, Box<Expr>, Box<Expr>),
-    /// `{first, second, ..}`, the first in the upper bits.
-    Concat(Vec<Expr>),
+    pub name: u32,
+    pub value: Code,
 }
 
 /// `!` and `~`.

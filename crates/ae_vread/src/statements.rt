@@ -1,316 +1,237 @@
 // Reading a statement from the tokens.
 
-ghost use Rattle.std.specs.Prelude.{◌≡◌, [], length, Some};
-ghost use Rattle.ae_vtoken.specs.Scan.{views};
-ghost use Rattle.ae_vread.specs.TokenTests.{after_mark, after_word, first_number};
-ghost use Rattle.ae_vread.specs.View.{stmt_tree};
-ghost use Rattle.ae_vread.specs.StmtReading.{statement, whole_statement, statement_at, target_from, put_by, put_place, put_from, set_from, assigned, value_then, test_then, choice_from, alone_of, either_of, body, body_of, with_statement, blocked, stmt_above};
-ghost use Rattle.ae_vread.specs.ReadView.{found_view, stmt_view, body_view, Gives};
-ghost use Rattle.ae_vtoken.specs.declared.token.Key.TheVariants.{Else};
+ghost use Rattle.std.specs.Prelude.{◌≡◌, ◌+◌, ◌<◌, ◌≤◌, ◌^◌, ℕ, List, ◌∷◌, IfErr, OnOk, Some, length, slice_get};
+ghost use Rattle.ae_vtoken.specs.Ahead.{ahead};
 ghost use Rattle.ae_vtoken.specs.declared.token.Sign.TheVariants.{OpenBracket};
+ghost use Rattle.ae_vread.specs.Held.{held};
+ghost use Rattle.ae_vread.specs.Numbered.{NumberedStmt, Piece, stmt};
+ghost use Rattle.ae_vread.specs.ReadExpr.{Holds, HoldsTwo, Reads, used};
+ghost use Rattle.ae_vread.specs.ReadStmt.{HasStmts, HoldsEither, HoldsPlace, HoldsWhen, ReadsStmt, block_parts, pushed_stmts};
+ghost use Rattle.ae_vread.specs.Reading.{Found};
+ghost use Rattle.ae_vread.specs.Stacks.{HasEither, HasExpr, HasExprs, HasWhen};
+ghost use Rattle.ae_vread.specs.StmtReading.{StmtFound, alone_of, assigned, block_at, choice_from, either_of, put_by, put_from, put_place, set_from, statement, statement_at, target_from, test_then, value_then, whole_statement};
+ghost use Rattle.ae_vread.specs.TokenTests.{after_mark, first_number};
+ghost use Rattle.ae_vread.specs.declared.reading.ReadFault.TheVariants.{Memory};
 
-use crate::expressions::whole_expression;
-use crate::module::{Expr, Stmt};
-use crate::reading::{Found, ReadFault, after_mark, after_word, deeper, first_number, want_mark};
+use crate::reading::{ReadFault, Reader, deeper};
 use ae_vtoken::{Key, Sign, Token};
-use std::alloc::Global;
 
-/// A statement, its depth, and the tokens behind it.
-#[derive(Drop)]
-pub struct StmtFound<'t, 'a> {
-    pub tree: Box<Stmt>,
-    pub depth: u32,
-    pub rest: &'t [Token<'a>],
-}
-
-/// Statements of a block, the depth of the deepest, and the tokens behind them.
-#[derive(Drop)]
-pub struct Body<'t, 'a> {
-    pub trees: Vec<Stmt>,
-    pub depth: u32,
-    pub rest: &'t [Token<'a>],
-}
-
-/// Reads a statement whose parts nest at most so deep.
-#[cycle(statements)]
-fn statement<'t, 'a>(
-    alloc: Global,
-    budget: u32,
-    tokens: &'t [Token<'a>],
-) -> Result<StmtFound<'t, 'a>, ReadFault>
-    ensures { Gives stmt_view result (statement budget (views tokens.now)) }
-{
-    if budget == 0 {
-        return Err(ReadFault::Syntax);
+impl Reader<'_> {
+    /// An expression, up to this sign.
+    fn value_then(&mut self, sign: Sign) -> Result<u32, ReadFault>
+        ensures read { Reads (held self.old.stack) self.old.words self.new result (value_then sign (ahead self.old.tokens)) }
+        ensures few { OnOk result (used self.new + 1 ≤ used self.old) }
+    {
+        let depth = self.whole_expression()?;
+        self.want_mark(sign)?;
+        Ok(depth)
     }
-    statement_at(alloc, budget - 1, tokens)
-}
 
-/// Reads a statement at most 256 deep.
-pub fn whole_statement<'t, 'a>(
-    alloc: Global,
-    tokens: &'t [Token<'a>],
-) -> Result<StmtFound<'t, 'a>, ReadFault>
-    ensures { Gives stmt_view result (whole_statement (views tokens.now)) }
-{
-    statement(alloc, 256, tokens)
-}
-
-#[cycle(statements)]
-fn statement_at<'t, 'a>(
-    alloc: Global,
-    budget: u32,
-    tokens: &'t [Token<'a>],
-) -> Result<StmtFound<'t, 'a>, ReadFault>
-    ensures { Gives stmt_view result (statement_at (statement budget) (views tokens.now)) }
-{
-    let Some((first, rest)) = tokens.split_first() else {
-        return Err(ReadFault::Syntax);
-    };
-    match first {
-        Token::Name(name) => target_from(alloc, name, rest),
-        Token::Word(Key::If) => choice_from(alloc, budget, test_then(alloc, rest)?),
-        Token::Word(Key::Begin) => blocked(alloc, inside(alloc, budget, rest)?),
-        _ => Err(ReadFault::Syntax),
+    /// A value behind `<=`, up to its semicolon.
+    fn assigned(&mut self) -> Result<u32, ReadFault>
+        ensures read { Reads (held self.old.stack) self.old.words self.new result (assigned (ahead self.old.tokens)) }
+        ensures few { OnOk result (used self.new + 2 ≤ used self.old) }
+    {
+        self.want_mark(Sign::AtMost)?;
+        self.value_then(Sign::Semicolon)
     }
-}
 
-/// An assignment behind its name.
-fn target_from<'t, 'a>(
-    alloc: Global,
-    name: &'a str,
-    tokens: &'t [Token<'a>],
-) -> Result<StmtFound<'t, 'a>, ReadFault>
-    ensures { Gives stmt_view result (target_from name.now (views tokens.now) (after_mark OpenBracket (views tokens.now))) }
-{
-    match after_mark(Sign::OpenBracket, tokens) {
-        Some(rest) => put_by(alloc, name, rest),
-        None => set_from(alloc, name, assigned(alloc, tokens)?),
+    /// A test in its parentheses.
+    fn test_then(&mut self) -> Result<u32, ReadFault>
+        ensures read { Reads (held self.old.stack) self.old.words self.new result (test_then (ahead self.old.tokens)) }
+        ensures few { OnOk result (used self.new + 2 ≤ used self.old) }
+    {
+        self.want_mark(Sign::Open)?;
+        self.value_then(Sign::Close)
     }
-}
 
-fn set_from<'t, 'a>(
-    alloc: Global,
-    name: &'a str,
-    value: Found<'t, 'a>,
-) -> Result<StmtFound<'t, 'a>, ReadFault>
-    ensures { Gives stmt_view result (set_from name.now (found_view value.entry)) }
-{
-    let Found { tree, depth, rest } = value;
-    let name = String::from_str(alloc, name)?;
-    let value = Box::into_inner(tree);
-    stmt_above(alloc, Stmt::Set { name, value }, depth, rest)
-}
+    /// The assignment of the expression on top to a name.
+    fn set(&mut self, name: u32, depth: u32) -> Result<u32, ReadFault>
+        requires some { HasExpr (held self.old.stack) }
+        requires room { used self.old + 1 < 2 ^ 32 }
+        ensures read { (n : List ℕ) (x : Found) (below : List Piece) → slice_get self.old.words name ≡ Some n → Holds below self.old depth x → ReadsStmt below self.old.words self.new result (set_from n x) }
+        ensures few { OnOk result (used self.new ≤ used self.old + 1) }
+    {
+        let depth = deeper(depth)?;
+        self.stack.set(name)?;
+        Ok(depth)
+    }
 
-/// An assignment behind its name and the bracket of its index.
-fn put_by<'t, 'a>(
-    alloc: Global,
-    name: &'a str,
-    tokens: &'t [Token<'a>],
-) -> Result<StmtFound<'t, 'a>, ReadFault>
-    ensures { Gives stmt_view result (put_by name.now (views tokens.now) (first_number (views tokens.now))) }
-{
-    match first_number(tokens) {
-        Some((at, behind)) => {
-            let rest = want_mark(Sign::CloseBracket, behind)?;
-            put_place(alloc, name, at, assigned(alloc, rest)?)
+    /// The assignment of the expression on top to the word of a name at the index under it, where both are so deep.
+    fn put(&mut self, name: u32, at: u32, value: u32) -> Result<u32, ReadFault>
+        requires some { HasExprs (held self.old.stack) }
+        requires room { used self.old + 1 < 2 ^ 32 }
+        ensures read { (n : List ℕ) (x y : Found) (below : List Piece) → slice_get self.old.words name ≡ Some n → HoldsTwo below self.old at value x y → ReadsStmt below self.old.words self.new result (put_from n x y) }
+        ensures few { OnOk result (used self.new ≤ used self.old + 1) }
+    {
+        let depth = deeper(at.max(value))?;
+        self.stack.put(name)?;
+        Ok(depth)
+    }
+
+    /// The statement on top where the test under it holds.
+    fn alone(&mut self, test: u32, first: u32) -> Result<u32, ReadFault>
+        requires some { HasWhen (held self.old.stack) }
+        requires room { used self.old + 1 < 2 ^ 32 }
+        ensures read { (x : Found) (y : StmtFound) (below : List Piece) → HoldsWhen below self.old test first x y → ReadsStmt below self.old.words self.new result (alone_of x y) }
+        ensures few { OnOk result (used self.new ≤ used self.old + 1) }
+    {
+        let depth = deeper(test.max(first))?;
+        self.stack.when()?;
+        Ok(depth)
+    }
+
+    /// One of the two statements on top, by the test under them.
+    fn either(&mut self, test: u32, first: u32, second: u32) -> Result<u32, ReadFault>
+        requires some { HasEither (held self.old.stack) }
+        requires room { used self.old + 1 < 2 ^ 32 }
+        ensures read { (x : Found) (y z : StmtFound) (below : List Piece) → HoldsEither below self.old test first second x y z → ReadsStmt below self.old.words self.new result (either_of x y z) }
+        ensures few { OnOk result (used self.new ≤ used self.old + 1) }
+    {
+        let depth = deeper(test.max(first.max(second)))?;
+        self.stack.either()?;
+        Ok(depth)
+    }
+
+    /// An assignment behind its name.
+    fn target(&mut self, name: u32) -> Result<u32, ReadFault>
+        ensures read { (n : List ℕ) → slice_get self.old.words name ≡ Some n → ReadsStmt (held self.old.stack) self.old.words self.new result (target_from n (ahead self.old.tokens) (after_mark OpenBracket (ahead self.old.tokens))) }
+        ensures few { OnOk result (used self.new ≤ used self.old) }
+    {
+        if self.mark(Sign::OpenBracket) {
+            return self.put_by(name);
         }
-        None => {
-            let at = value_then(alloc, Sign::CloseBracket, tokens)?;
-            let value = assigned(alloc, at.rest)?;
-            put_from(alloc, name, at, value)
+        let depth = self.assigned()?;
+        self.set(name, depth)
+    }
+
+    /// An assignment behind its name and the bracket of its index.
+    fn put_by(&mut self, name: u32) -> Result<u32, ReadFault>
+        ensures read { (n : List ℕ) → slice_get self.old.words name ≡ Some n → ReadsStmt (held self.old.stack) self.old.words self.new result (put_by n (ahead self.old.tokens) (first_number (ahead self.old.tokens))) }
+        ensures few { OnOk result (used self.new ≤ used self.old) }
+    {
+        match self.number() {
+            Some(place) => {
+                self.stack.place(place)?;
+                self.want_mark(Sign::CloseBracket)?;
+                let depth = self.assigned()?;
+                self.put_place(name, place, depth)
+            }
+            None => {
+                let at = self.value_then(Sign::CloseBracket)?;
+                let value = self.assigned()?;
+                self.put(name, at, value)
+            }
         }
     }
-}
 
-fn put_place<'t, 'a>(
-    alloc: Global,
-    name: &'a str,
-    at: u32,
-    value: Found<'t, 'a>,
-) -> Result<StmtFound<'t, 'a>, ReadFault>
-    ensures { Gives stmt_view result (put_place name.now at (found_view value.entry)) }
-{
-    let Found { tree, depth, rest } = value;
-    let name = String::from_str(alloc, name)?;
-    let value = Box::into_inner(tree);
-    let at = Expr::Place(at);
-    stmt_above(alloc, Stmt::Put { name, at, value }, depth, rest)
-}
+    /// The assignment of the expression on top to the word of a name at the place under it.
+    fn put_place(&mut self, name: u32, place: u32, depth: u32) -> Result<u32, ReadFault>
+        requires some { HasExprs (held self.old.stack) }
+        requires room { used self.old + 1 < 2 ^ 32 }
+        ensures read { (n : List ℕ) (x : Found) (below : List Piece) → slice_get self.old.words name ≡ Some n → HoldsPlace below self.old place depth x → ReadsStmt below self.old.words self.new result (put_place n place x) }
+        ensures few { OnOk result (used self.new ≤ used self.old + 1) }
+    {
+        let depth = deeper(depth)?;
+        self.stack.put(name)?;
+        Ok(depth)
+    }
 
-fn put_from<'t, 'a>(
-    alloc: Global,
-    name: &'a str,
-    at: Found<'t, 'a>,
-    value: Found<'t, 'a>,
-) -> Result<StmtFound<'t, 'a>, ReadFault>
-    ensures { Gives stmt_view result (put_from name.now (found_view at.entry) (found_view value.entry)) }
-{
-    let depth = at.depth.max(value.depth);
-    let rest = value.rest;
-    let name = String::from_str(alloc, name)?;
-    let at = Box::into_inner(at.tree);
-    let value = Box::into_inner(value.tree);
-    stmt_above(alloc, Stmt::Put { name, at, value }, depth, rest)
-}
-
-/// `<= value;`
-fn assigned<'t, 'a>(alloc: Global, tokens: &'t [Token<'a>]) -> Result<Found<'t, 'a>, ReadFault>
-    ensures { Gives found_view result (assigned (views tokens.now)) }
-{
-    value_then(alloc, Sign::Semicolon, want_mark(Sign::AtMost, tokens)?)
-}
-
-/// An expression up to this sign.
-pub fn value_then<'t, 'a>(
-    alloc: Global,
-    sign: Sign,
-    tokens: &'t [Token<'a>],
-) -> Result<Found<'t, 'a>, ReadFault>
-    ensures { Gives found_view result (value_then sign (views tokens.now)) }
-{
-    let Found { tree, depth, rest } = whole_expression(alloc, tokens)?;
-    let rest = want_mark(sign, rest)?;
-    Ok(Found { tree, depth, rest })
-}
-
-/// A test in its parentheses.
-fn test_then<'t, 'a>(alloc: Global, tokens: &'t [Token<'a>]) -> Result<Found<'t, 'a>, ReadFault>
-    ensures { Gives found_view result (test_then (views tokens.now)) }
-{
-    value_then(alloc, Sign::Close, want_mark(Sign::Open, tokens)?)
-}
-
-/// The statements behind a test; an `else` belongs to the nearest `if`.
-#[cycle(statements)]
-fn choice_from<'t, 'a>(
-    alloc: Global,
-    budget: u32,
-    test: Found<'t, 'a>,
-) -> Result<StmtFound<'t, 'a>, ReadFault>
-    ensures { Gives stmt_view result (choice_from (statement budget) (found_view test.entry)) }
-{
-    let first = statement(alloc, budget, test.rest)?;
-    let Some(rest) = after_word(Key::Else, first.rest) else {
-        return alone(alloc, test, first);
-    };
-    let second = statement(alloc, budget, rest)?;
-    either_of(alloc, test, first, second)
-}
-
-fn alone<'t, 'a>(
-    alloc: Global,
-    test: Found<'t, 'a>,
-    first: StmtFound<'t, 'a>,
-) -> Result<StmtFound<'t, 'a>, ReadFault>
-    ensures { Gives stmt_view result (alone_of (found_view test.entry) (stmt_view first.entry)) }
-{
-    let depth = test.depth.max(first.depth);
-    let tree = Stmt::If {
-        test: Box::into_inner(test.tree),
-        yes: first.tree,
-        no: None,
-    };
-    stmt_above(alloc, tree, depth, first.rest)
-}
-
-fn either_of<'t, 'a>(
-    alloc: Global,
-    test: Found<'t, 'a>,
-    first: StmtFound<'t, 'a>,
-    second: StmtFound<'t, 'a>,
-) -> Result<StmtFound<'t, 'a>, ReadFault>
-    ensures { Gives stmt_view result (either_of (found_view test.entry) (stmt_view first.entry) (stmt_view second.entry)) }
-{
-    let depth = test.depth.max(first.depth.max(second.depth));
-    let tree = Stmt::If {
-        test: Box::into_inner(test.tree),
-        yes: first.tree,
-        no: Some(second.tree),
-    };
-    stmt_above(alloc, tree, depth, second.rest)
-}
-
-/// The statements up to the `end` that closes them.
-#[cycle(statements)]
-fn inside<'t, 'a>(
-    alloc: Global,
-    budget: u32,
-    tokens: &'t [Token<'a>],
-) -> Result<Body<'t, 'a>, ReadFault>
-    ensures { Gives body_view result (body (statement budget) (length (views tokens.now)) (body_of [] 0 (views tokens.now))) }
-{
-    let mut held = Body {
-        trees: Vec::new(alloc),
-        depth: 0,
-        rest: tokens,
-    };
-    'next: for turn in 0..tokens.len() {
-        if let Some(end) = after_word(Key::End, held.rest) {
-            return Ok(ended(held, end));
+    /// The block of so many statements on top.
+    fn join_stmts(&mut self, count: u32) -> Result<(), ReadFault>
+        requires some { HasStmts count (held self.old.stack) }
+        requires room { used self.old + count + 1 < 2 ^ 32 }
+        ensures pieces { (ss : List NumberedStmt) (below : List Piece) → length ss ≡ count → held self.old.stack ≡ pushed_stmts ss below → OnOk result (held self.new.stack ≡ stmt (block_parts ss) ∷ below) }
+        ensures memory { IfErr result (λ e. e ≡ Memory) }
+        ensures tokens { self.new.tokens ≡ self.old.tokens }
+        ensures words { self.new.words ≡ self.old.words }
+        ensures few { OnOk result (used self.new ≤ used self.old + count + 1) }
+    {
+        self.stack.end()?;
+        'more: for turn in 0..count {
+            self.stack.then()?;
         }
-        let next = statement(alloc, budget, held.rest)?;
-        held = with_statement(held, next)?;
-    }
-    Err(ReadFault::Syntax)
-}
-
-fn ended<'t, 'a>(held: Body<'t, 'a>, end: &'t [Token<'a>]) -> Body<'t, 'a>
-    ensures { body_view result ≡ body_of (body_view held.entry).trees (body_view held.entry).depth (views end.now) }
-{
-    let Body { trees, depth, .. } = held;
-    Body {
-        trees,
-        depth,
-        rest: end,
+        Ok(())
     }
 }
 
-fn with_statement<'t, 'a>(
-    held: Body<'t, 'a>,
-    next: StmtFound<'t, 'a>,
-) -> Result<Body<'t, 'a>, ReadFault>
-    ensures { Gives body_view result (Some (with_statement (body_view held.entry) (stmt_view next.entry))) }
-{
-    let Body {
-        mut trees,
-        depth,
-        ..
-    } = held;
-    let StmtFound {
-        tree,
-        depth: deep,
-        rest,
-    } = next;
-    // Most have one statement, and the least room that a push makes is for four.
-    if trees.is_empty() {
-        trees.reserve_exact(1)?;
+impl Reader<'_> {
+    /// Reads a statement whose parts nest at most so deep, and tells its depth.
+    #[cycle(statements)]
+    fn statement(&mut self, budget: u32) -> Result<u32, ReadFault>
+        ensures read { ReadsStmt (held self.old.stack) self.old.words self.new result (statement budget (ahead self.old.tokens)) }
+        ensures few { OnOk result (used self.new + 1 ≤ used self.old) }
+    {
+        if budget == 0 {
+            return Err(ReadFault::Syntax);
+        }
+        self.statement_at(budget - 1)
     }
-    trees.push(Box::into_inner(tree))?;
-    Ok(Body {
-        trees,
-        depth: depth.max(deep),
-        rest,
-    })
-}
 
-fn blocked<'t, 'a>(alloc: Global, body: Body<'t, 'a>) -> Result<StmtFound<'t, 'a>, ReadFault>
-    ensures { Gives stmt_view result (blocked (body_view body.entry)) }
-{
-    let Body { trees, depth, rest } = body;
-    stmt_above(alloc, Stmt::Block(trees), depth, rest)
-}
+    /// Reads a statement at most 256 deep, and tells its depth.
+    pub fn whole_statement(&mut self) -> Result<u32, ReadFault>
+        ensures read { ReadsStmt (held self.old.stack) self.old.words self.new result (whole_statement (ahead self.old.tokens)) }
+        ensures few { OnOk result (used self.new + 1 ≤ used self.old) }
+    {
+        self.statement(256)
+    }
 
-/// A statement whose parts are so deep, with the tokens behind it.
-fn stmt_above<'t, 'a>(
-    alloc: Global,
-    tree: Stmt,
-    depth: u32,
-    rest: &'t [Token<'a>],
-) -> Result<StmtFound<'t, 'a>, ReadFault>
-    ensures { Gives stmt_view result (stmt_above (stmt_tree tree) depth (views rest.now)) }
-{
-    let tree = Box::new(alloc, tree)?;
-    let depth = deeper(depth)?;
-    Ok(StmtFound { tree, depth, rest })
+    #[cycle(statements)]
+    fn statement_at(&mut self, budget: u32) -> Result<u32, ReadFault>
+        ensures read { ReadsStmt (held self.old.stack) self.old.words self.new result (statement_at (statement budget) (ahead self.old.tokens)) }
+        ensures few { OnOk result (used self.new + 1 ≤ used self.old) }
+    {
+        match self.tokens.first() {
+            Some(Token::Name(_)) => {
+                let name = self.want_name()?;
+                self.target(name)
+            }
+            Some(Token::Word(Key::If)) => {
+                self.skip();
+                let test = self.test_then()?;
+                self.choice_from(budget, test)
+            }
+            Some(Token::Word(Key::Begin)) => {
+                self.skip();
+                self.block(budget)
+            }
+            _ => Err(ReadFault::Syntax),
+        }
+    }
+
+    /// The statements behind a test; an `else` belongs to the nearest `if`.
+    #[cycle(statements)]
+    fn choice_from(&mut self, budget: u32, test: u32) -> Result<u32, ReadFault>
+        requires some { HasExpr (held self.old.stack) }
+        ensures read { (x : Found) (below : List Piece) → Holds below self.old test x → ReadsStmt below self.old.words self.new result (choice_from (statement budget) x) }
+        ensures few { OnOk result (used self.new ≤ used self.old) }
+    {
+        let first = self.statement(budget)?;
+        if self.word(Key::Else) {
+            let second = self.statement(budget)?;
+            return self.either(test, first, second);
+        }
+        self.alone(test, first)
+    }
+
+    /// The statements up to the `end` that closes them, as a block.
+    #[cycle(statements)]
+    fn block(&mut self, budget: u32) -> Result<u32, ReadFault>
+        ensures read { ReadsStmt (held self.old.stack) self.old.words self.new result (block_at (statement budget) (ahead self.old.tokens)) }
+        ensures few { OnOk result (used self.new ≤ used self.old) }
+    {
+        let mut depth: u32 = 0;
+        let mut count: u32 = 0;
+        'next: for turn in 0..self.tokens.len() {
+            if self.word(Key::End) {
+                let depth = deeper(depth)?;
+                self.join_stmts(count)?;
+                return Ok(depth);
+            }
+            let next = self.statement(budget)?;
+            depth = depth.max(next);
+            count += 1;
+        }
+        Err(ReadFault::Syntax)
+    }
 }

@@ -10,3 +10,4 @@ pub mod OneList
 pub mod DecimalLemmas
 pub mod SizedLemmas
 pub mod Exact
+pub mod Fronts

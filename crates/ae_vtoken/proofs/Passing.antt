@@ -3,8 +3,7 @@ use Rattle.std.proofs.Common.{◌≡◌, ℕ, ◌+◌, ◌-◌, ◌<◌, ◌≤�
 use Rattle.std.proofs.lemmas.List.{drop_more, drop-drop, take-append-drop}
 use Rattle.ae_vtoken.specs.Tokens as tok
 use Rattle.ae_vtoken.specs.Tokens.{after_gap, Between, NoToken, BeginsWith, AreTokens, No_more, Then, Stuck, Here, Later, IsBadToken}
-use Rattle.ae_vtoken.specs.Scan.{TokenAt, ReadTo, views, token_view}
-use Rattle.ae_vtoken.specs.declared.token.Token.{Token}
+use Rattle.ae_vtoken.specs.Scan.{TokenAt, ReadTo}
 
 pub drop_past : (l : List ℕ) (n : ℕ) → length l ≤ n → drop n l ≡ []
 drop_past [] zero h = refl
@@ -12,7 +11,7 @@ drop_past [] (suc n) h = refl
 drop_past (x ∷ l) zero h = absurd (omega (arith, h))
 drop_past (x ∷ l) (suc n) h = drop_past l n (omega (arith, h))
 
-begins : (text : List ℕ) (i at to : ℕ) (t : tok.TokenTree) → after_gap Between (drop i text) ≡ drop at text → TokenAt text at to t
+pub begins : (text : List ℕ) (i at to : ℕ) (t : tok.TokenTree) → after_gap Between (drop i text) ≡ drop at text → TokenAt text at to t
     → BeginsWith (drop i text) (take (to - at) (drop at text)) (drop to text) t
 begins text i at to t gap here = record {
   parts =
@@ -47,7 +46,3 @@ read_stuck text i at ts read gap within none =
       stuck = read.stuck (drop at text) (subst (Stuck (drop i text)) (sym front)
           (Here (drop i text) (get_or text at 0) (drop (at + 1) text) (gap ∙ front) (subst NoToken front none)));
     }
-
-pub views_more : (xs : List Token) (x : Token) → views (xs ++ x ∷ []) ≡ views xs ++ token_view x ∷ []
-views_more [] x = refl
-views_more (y ∷ xs) x = ap (λ l. token_view y ∷ l) (views_more xs x)

@@ -1,14 +1,12 @@
 -- What a pass over a text reads, and what it answers.
-use Rattle.std.specs.Prelude.{◌≡◌, ℕ, ◌+◌, ◌-◌, ◌<◌, ◌≤◌, List, ◌++◌, Bool, true, false, ◌||◌, ◌==◌, Option, Some, None, Result, Ok, Err, take, drop, length, map, get_or, nat_le, nat_lt, if◌then◌else◌}
+use Rattle.std.specs.Prelude.{◌≡◌, ℕ, ◌+◌, ◌-◌, ◌<◌, ◌≤◌, List, ◌++◌, Bool, true, false, ◌||◌, ◌==◌, Option, Some, None, take, drop, length, get_or, nat_le, nat_lt, if◌then◌else◌}
 use Rattle.std.specs.Char.{digit_value}
 use Rattle.ae_vtoken.specs.Tokens as t
-use Rattle.ae_vtoken.specs.Tokens.{TokenTree, token_of, sized_of, base_of, IsLongest, AreTokens, Stuck, IsBadToken, look_up}
+use Rattle.ae_vtoken.specs.Tokens.{TokenTree, token_of, sized_of, base_of, IsLongest, AreTokens, Stuck, look_up}
 use Rattle.ae_vtoken.specs.Tables.{signs}
 use Rattle.ae_vtoken.specs.declared.token.Sign.{Sign}
 use Rattle.ae_vtoken.specs.declared.token.Token.{Token}
 use Rattle.ae_vtoken.specs.declared.token.Token.TheVariants.{Name, Word, Unused, Zero, Decimal, Sized, Mark}
-use Rattle.ae_vtoken.specs.declared.scan.TokenFault.{TokenFault}
-use Rattle.ae_vtoken.specs.declared.scan.TokenFault.TheVariants.{BadToken, Memory}
 
 -- the token of the code
 abbrev pub token_view : Token → TokenTree
@@ -19,30 +17,6 @@ token_view Zero = t.Zero
 token_view (Decimal n) = t.Decimal n
 token_view (Sized value size fits) = t.Sized size value fits
 token_view (Mark s) = t.Mark s
-
-abbrev pub views : List Token → List TokenTree
-views ts = map token_view ts
-
--- the fault is the first bad byte, or want of memory
-abbrev pub IsTokenFault : List ℕ → TokenFault → Type 0
-IsTokenFault text (BadToken at) = IsBadToken text at
-IsTokenFault text Memory = Unit {0}
-
-abbrev pub FaultIs : {X : Type 0} → List ℕ → Result X TokenFault → Type 0
-FaultIs text (Ok x) = Unit {0}
-FaultIs text (Err e) = IsTokenFault text e
-
--- the answer is these tokens, unless memory ran out
-abbrev pub GivesTokens : {X : Type 0} → (X → List TokenTree) → List TokenTree → Result X TokenFault → Type 0
-GivesTokens view ts (Ok x) = view x ≡ ts
-GivesTokens view ts (Err (BadToken at)) = ⊥
-GivesTokens view ts (Err Memory) = Unit {0}
-
--- the answer is this place, unless memory ran out
-abbrev pub GivesPlace : {X : Type 0} → ℕ → Result X TokenFault → Type 0
-GivesPlace at (Ok x) = ⊥
-GivesPlace at (Err (BadToken bad)) = bad ≡ at
-GivesPlace at (Err Memory) = Unit {0}
 
 -- from one place to another there stands this token, and no longer one
 pub record TokenAt (text : List ℕ) (from to : ℕ) (t : TokenTree) : Type 0 where

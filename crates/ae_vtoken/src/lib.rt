@@ -1,6 +1,7 @@
 //! The tokens of a Verilog text of the profile.
 #![tactic(auto)]
 
+mod cursor;
 mod decimals;
 mod gaps;
 mod marks;
@@ -9,5 +10,5 @@ mod sized;
 mod token;
 mod words;
 
-pub use scan::{TokenFault, tokens};
+pub use cursor::{BadToken, Tokens};
 pub use token::{Key, Sign, Token};

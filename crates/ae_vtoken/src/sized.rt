@@ -138,7 +138,7 @@ fn constant<'a>(size: u32, value: u128) -> Token<'a>
 {
     if size <= 64 && value < (1u128 << size) {
         Token::Sized {
-            size,
+            size: size as u8,
             value: value as u64,
             fits: true,
         }

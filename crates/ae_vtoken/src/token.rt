@@ -68,6 +68,6 @@ pub enum Token<'a> {
     Decimal(u32),
     /// A sized constant; where its value does not fit its size, or the size is above 64, `fits` is false and both
     /// numbers are 0.
-    Sized { value: u64, size: u32, fits: bool },
+    Sized { value: u64, size: u8, fits: bool },
     Mark(Sign),
 }

@@ -236,7 +236,7 @@ fn push_faulty(
 }
 
 // The module of a text, if it spells one.
-fn module_of(alloc: Global, text: &[u8]) -> Option<VModule> {
+fn module_of<'a>(alloc: Global, text: &'a [u8]) -> Option<VModule<'a>> {
     if text.len() > 16_777_216 {
         return None;
     }
@@ -271,15 +271,11 @@ fn push_net(
     let Some(net) = m.nets.get(net as usize) else {
         return Ok(());
     };
-    if let Some(lexeme) = place_of_name(text, &found, net.name.as_str()) {
+    let name = m.words.name(net.name);
+    if let Some(lexeme) = place_of_name(text, &found, name) {
         push_lexeme(out, text, lexeme)?;
     }
-    writeln!(
-        out,
-        "{}, declared in item {}, {what}",
-        net.name.as_str(),
-        net.item
-    )
+    writeln!(out, "{name}, declared in item {}, {what}", net.item)
 }
 
 const KEYWORDS: [&str; 13] = [
@@ -304,9 +300,9 @@ fn is_name(word: &[u8]) -> bool {
 }
 
 // Whether a name is declared in an item or above it.
-fn is_declared(m: &VModule, word: &[u8], item: u32) -> bool {
+fn is_declared(m: &VModule<'_>, word: &[u8], item: u32) -> bool {
     for net in &m.nets {
-        if net.item <= item && net.name.as_bytes() == word {
+        if net.item <= item && m.words.name(net.name).as_bytes() == word {
             return true;
         }
     }
@@ -314,7 +310,7 @@ fn is_declared(m: &VModule, word: &[u8], item: u32) -> bool {
 }
 
 // The first name in an item that is not declared.
-fn unknown_name(text: &[u8], m: &VModule, item: &[Lexeme], number: u32) -> Option<Lexeme> {
+fn unknown_name(text: &[u8], m: &VModule<'_>, item: &[Lexeme], number: u32) -> Option<Lexeme> {
     for lexeme in item {
         let word = bytes_of(text, *lexeme);
         if is_name(word) && !is_declared(m, word, number) {

@@ -6,11 +6,13 @@
 ghost use Rattle.std.specs.Prelude.{◌<◌, ◌^◌, length};
 
 mod escapes;
+mod trees;
 mod written;
 
 use ae_elab::elaborate;
 use ae_netlist::Netlist;
-use ae_vread::{read, tokens};
+use ae_vread::read;
+use ae_vtoken::Tokens;
 use std::alloc::Global;
 use std::io;
 
@@ -20,15 +22,23 @@ const LONG: usize = 100_000;
 fn show_tokens<R: Print>(rt: &R, alloc: Global, text: &[u8]) -> io::Result<()>
     requires { length text.now < 2 ^ 32 }
 {
-    let found = tokens(alloc, text);
-    println!(rt; "  {found:?}")
+    match Tokens::of(text) {
+        Ok(tokens) => {
+            let listed = trees::tokens(alloc, tokens)?;
+            println!(rt; "  Ok([{listed}])")
+        }
+        Err(bad) => println!(rt; "  Err({bad:?})"),
+    }
 }
 
 fn show_items<R: Print>(rt: &R, alloc: Global, text: &[u8]) -> io::Result<()>
     requires { length text.now < 2 ^ 32 }
 {
     match read(alloc, text) {
-        Ok(module) => println!(rt; "  {:?}", module.items),
+        Ok(module) => {
+            let listed = trees::items(alloc, &module)?;
+            println!(rt; "  [{listed}]")
+        }
         Err(fault) => println!(rt; "  {fault:?}"),
     }
 }
@@ -37,7 +47,10 @@ fn show_nets<R: Print>(rt: &R, alloc: Global, text: &[u8]) -> io::Result<()>
     requires { length text.now < 2 ^ 32 }
 {
     match read(alloc, text) {
-        Ok(module) => println!(rt; "  {} {:?}", module.name, module.nets),
+        Ok(module) => {
+            let listed = trees::nets(alloc, &module)?;
+            println!(rt; "  {} [{listed}]", module.words.name(module.name))
+        }
         Err(fault) => println!(rt; "  {fault:?}"),
     }
 }

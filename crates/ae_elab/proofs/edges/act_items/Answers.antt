@@ -5,31 +5,31 @@ use Rattle.ae_gates.specs.Cells.{HasRoom}
 use Rattle.ae_assign.specs.Edges.{edge_weight}
 use Rattle.std.proofs.lemmas.List.Sums.{sum_by-cons}
 use Rattle.ae_express.proofs.NetLaws.{nets_grow}
-use Rattle.ae_assign.proofs.EdgeBlocks.{drop_turn, drop_done}
-use Rattle.ae_elab.proofs.EdgeItems.{AreActing, items_done, items_fresh, items_step}
+use Rattle.ae_elab.proofs.EdgeItems.{AreActing, drop_done, drop_turn, items_done, items_fresh, items_step}
 use Rattle.ae_elab.proofs.edges.act_items.Goals as goal
 
 pub act_item-requires : goal.act_item-requires
 act_item-requires c =
     let l : c.loop-item.item-index < length c.args.items.now = omega arith in
-    let turn = drop_turn item_tree c.args.items.now c.loop-item.item-index c.item-item.result l c.item-item.is in
-    let rest = drop (c.loop-item.item-index + 1) (map item_tree c.args.items.now) in
-    let whole = map item_tree c.args.items.now in
-    let i = item_tree c.item-item.result in
-    let here = subst (λ u. AreActing c.args.from c.args.names.now c.args.nets.now c.args.nl.now c.loop-item.nl c.args.nexts.now.items c.loop-item.nexts.items
+    let turn = drop_turn (item_tree c.args.names.now.words) c.args.items.now c.loop-item.item-index c.item-item.result l c.item-item.is in
+    let rest = drop (c.loop-item.item-index + 1) (map (item_tree c.args.names.now.words) c.args.items.now) in
+    let whole = map (item_tree c.args.names.now.words) c.args.items.now in
+    let i = item_tree c.args.names.now.words c.item-item.result in
+    let here = subst (λ u. AreActing c.args.from c.args.names.now.nets c.args.nets.now c.args.nl.now c.loop-item.nl c.args.nexts.now.items
+    c.loop-item.nexts.items
     whole u) turn c.loop-item.invariant in
     let had = c.requires.room in
     let few = here.few in
     let limit = here.grows.limit in
     let more = here.more in
     let sum : sum_by edge_weight (i ∷ rest) ≡ edge_weight i + sum_by edge_weight rest = sum_by-cons edge_weight i rest in
-    let room : HasRoom c.loop-item.nl (8 * edge_weight (item_tree c.item-item.result)) = omega arith in
+    let room : HasRoom c.loop-item.nl (8 * edge_weight (item_tree c.args.names.now.words c.item-item.result)) = omega arith in
     let active = here.active in
     search (
       rules,
       active.0,
       here.nexts,
-      items_fresh c.args.from c.args.names.now c.args.nets.now c.args.nl.now c.args.nexts.now.items whole c.loop-item.nl
+      items_fresh c.args.from c.args.names.now.nets c.args.nets.now c.args.nl.now c.args.nexts.now.items whole c.loop-item.nl
           c.loop-item.nexts.items i rest here,
       room,
       nets_grow here.grows c.requires.nets,
@@ -38,20 +38,23 @@ act_item-requires c =
 pub loop-item-preserved : goal.loop-item-preserved
 loop-item-preserved c =
     let l : c.loop-item.item-index < length c.args.items.now = omega arith in
-    let turn = drop_turn item_tree c.args.items.now c.loop-item.item-index c.item-item.result l c.item-item.is in
-    let rest = drop (c.loop-item.item-index + 1) (map item_tree c.args.items.now) in
-    let whole = map item_tree c.args.items.now in
-    let here = subst (λ u. AreActing c.args.from c.args.names.now c.args.nets.now c.args.nl.now c.loop-item.nl c.args.nexts.now.items c.loop-item.nexts.items
+    let turn = drop_turn (item_tree c.args.names.now.words) c.args.items.now c.loop-item.item-index c.item-item.result l c.item-item.is in
+    let rest = drop (c.loop-item.item-index + 1) (map (item_tree c.args.names.now.words) c.args.items.now) in
+    let whole = map (item_tree c.args.names.now.words) c.args.items.now in
+    let here = subst (λ u. AreActing c.args.from c.args.names.now.nets c.args.nets.now c.args.nl.now c.loop-item.nl c.args.nexts.now.items
+    c.loop-item.nexts.items
     whole u) turn c.loop-item.invariant in
-    items_step c.args.from c.args.names.now c.args.nets.now c.args.nl.now c.args.nexts.now.items whole c.loop-item.nl c.act_item.new.nl c.loop-item.nexts.items
-    c.act_item.new.nexts.items (item_tree c.item-item.result) rest here
+    items_step c.args.from c.args.names.now.nets c.args.nets.now c.args.nl.now c.args.nexts.now.items whole c.loop-item.nl c.act_item.new.nl
+    c.loop-item.nexts.items
+    c.act_item.new.nexts.items (item_tree c.args.names.now.words c.item-item.result) rest here
     c.in_ok-act_item.ensures.grows c.in_ok-act_item.ensures.more c.in_ok-act_item.ensures.few c.in_ok-act_item.ensures.nexts c.in_ok-act_item.ensures.others
     c.in_ok-act_item.ensures.acts
 
 pub returns-clause-acts : goal.returns-clause-acts
 returns-clause-acts c =
-    let whole = map item_tree c.args.items.now in
-    let done = drop_done item_tree c.args.items.now c.loop-item.item-index (omega arith) in
-    items_done c.args.from c.args.names.now c.args.nets.now c.args.nl.now c.args.nexts.now.items whole c.loop-item.nl c.loop-item.nexts.items
-    (subst (λ u. AreActing c.args.from c.args.names.now c.args.nets.now c.args.nl.now c.loop-item.nl c.args.nexts.now.items c.loop-item.nexts.items whole u)
+    let whole = map (item_tree c.args.names.now.words) c.args.items.now in
+    let done = drop_done (item_tree c.args.names.now.words) c.args.items.now c.loop-item.item-index (omega arith) in
+    items_done c.args.from c.args.names.now.nets c.args.nets.now c.args.nl.now c.args.nexts.now.items whole c.loop-item.nl c.loop-item.nexts.items
+    (subst (λ u. AreActing c.args.from c.args.names.now.nets c.args.nets.now c.args.nl.now c.loop-item.nl c.args.nexts.now.items c.loop-item.nexts.items whole
+    u)
     done c.loop-item.invariant)

@@ -11,42 +11,42 @@ use Rattle.ae_elab.proofs.edges.connect_all.Goals.{in-Some, in_default}
 pub connect-requires-clause-unconnected : goal.connect-requires-clause-unconnected
 connect-requires-clause-unconnected c =
     let k = c.loop-place.place in
-    let all = length-map c.args.m.now.nets.items net_tree in
+    let all = length-map c.args.m.now.nets.items (net_tree c.args.m.now.words) in
     let long = c.requires.long in
     let many = c.requires.fits.long in
     let l : c.loop-place.place < length c.args.m.now.nets.items = omega arith in
     let n : c.loop-place.place < length c.args.nets.now = omega arith in
-    let here = at_turn net_tree c.args.m.now.nets.items k c.index.result.now l c.index.ensures in
+    let here = at_turn (net_tree c.args.m.now.words) c.args.m.now.nets.items k c.index.result.now l c.index.ensures in
     let net = slice_get-get_or c.args.nets.now k None n ∙ ap Some c.in-Some.is in
-    c.loop-place.invariant.free k (net_tree c.index.result.now) c.in-Some.net (omega arith) here net
+    c.loop-place.invariant.free k (net_tree c.args.m.now.words c.index.result.now) c.in-Some.net (omega arith) here net
 
 pub connect-requires-clause-early : goal.connect-requires-clause-early
 connect-requires-clause-early c = λ state.
     let k = c.loop-place.place in
-    let all = length-map c.args.m.now.nets.items net_tree in
+    let all = length-map c.args.m.now.nets.items (net_tree c.args.m.now.words) in
     let long = c.requires.long in
     let many = c.requires.fits.long in
     let l : c.loop-place.place < length c.args.m.now.nets.items = omega arith in
     let n : c.loop-place.place < length c.args.nets.now = omega arith in
-    let here = at_turn net_tree c.args.m.now.nets.items k c.index.result.now l c.index.ensures in
+    let here = at_turn (net_tree c.args.m.now.words) c.args.m.now.nets.items k c.index.result.now l c.index.ensures in
     let net = slice_get-get_or c.args.nets.now k None n ∙ ap Some c.in-Some.is in
-    c.requires.unconnected.early k (net_tree c.index.result.now) c.in-Some.net here state net
+    c.requires.unconnected.early k (net_tree c.args.m.now.words c.index.result.now) c.in-Some.net here state net
 
 pub connect-requires-clause-fits : goal.connect-requires-clause-fits
 connect-requires-clause-fits c =
     let k = c.loop-place.place in
-    let all = length-map c.args.m.now.nets.items net_tree in
+    let all = length-map c.args.m.now.nets.items (net_tree c.args.m.now.words) in
     let long = c.requires.long in
     let many = c.requires.fits.long in
     let l : c.loop-place.place < length c.args.m.now.nets.items = omega arith in
-    let here = at_turn net_tree c.args.m.now.nets.items k c.index.result.now l c.index.ensures in
-    c.loop-place.invariant.fits.each k (net_tree c.index.result.now) _ here (slice_get-get_or c.args.nexts.now k Keep c.loop-place-test.true)
+    let here = at_turn (net_tree c.args.m.now.words) c.args.m.now.nets.items k c.index.result.now l c.index.ensures in
+    c.loop-place.invariant.fits.each k (net_tree c.args.m.now.words c.index.result.now) _ here (slice_get-get_or c.args.nexts.now k Keep c.loop-place-test.true)
 
 pub loop-place-preserved : goal.loop-place-preserved
 loop-place-preserved c =
     let m = module_tree c.args.m.now in
     let k = c.loop-place.place in
-    let all = length-map c.args.m.now.nets.items net_tree in
+    let all = length-map c.args.m.now.nets.items (net_tree c.args.m.now.words) in
     let long = c.requires.long in
     let many = c.requires.fits.long in
     let l : c.loop-place.place < length c.args.m.now.nets.items = omega arith in
@@ -54,12 +54,12 @@ loop-place-preserved c =
     let next = slice_get-get_or c.args.nexts.now k Keep c.loop-place-test.true in
     elim c.match-nets-place.branch [
       | in-Some w ↦
-          let here = at_turn net_tree c.args.m.now.nets.items k w.index.result.now l w.index.ensures in
+          let here = at_turn (net_tree c.args.m.now.words) c.args.m.now.nets.items k w.index.result.now l w.index.ensures in
           let net = slice_get-get_or c.args.nets.now k None n ∙ ap Some w.in-Some.is in
           let e = w.connect.ensures in
           subst (λ a. AreJoined c.args.from m c.args.nets.now c.args.nexts.now c.args.nl.now a (k + 1)) (sym w.nl-is)
           (joins_step c.args.from m c.args.nets.now c.args.nexts.now c.args.nl.now c.requires.unconnected c.loop-place.nl w.connect.new.nl k
-          (net_tree w.index.result.now) w.in-Some.net (get_or c.args.nexts.now k Keep) c.loop-place.invariant here net next
+          (net_tree c.args.m.now.words w.index.result.now) w.in-Some.net (get_or c.args.nexts.now k Keep) c.loop-place.invariant here net next
           (record { connects = e.connects; long = e.long; constants = e.constants; others = e.others; stays = e.stays; connected = e.connected }))
       | in_default w ↦
           subst (λ a. AreJoined c.args.from m c.args.nets.now c.args.nexts.now c.args.nl.now a (k + 1)) (sym w.nl-is)

@@ -6,14 +6,16 @@ use Rattle.ae_assign.specs.declared.statements.Next.TheVariants.{Keep}
 use Rattle.ae_elab.proofs.EdgeSteps.{edge_steps}
 use Rattle.ae_elab.proofs.EdgeSound.{items_active}
 use Rattle.ae_elab.proofs.EdgeFresh.{first_fit, first_fresh, first_nexts, items_next, unconnected_grows}
+use Rattle.ae_elab.proofs.Tables.{table_nets}
 use Rattle.ae_elab.proofs.edges.perform.Goals as goal
 
 pub act_items-requires : goal.act_items-requires
 act_items-requires c =
     let m = module_tree c.args.m.now in
-    let items : map item_tree c.deref.result.now ≡ (module_tree c.args.m.now).items = ap (map item_tree) c.deref.ensures.value in
+    let items : map (item_tree c.args.m.now.words) c.deref.result.now ≡ (module_tree c.args.m.now).items = ap
+    (map (item_tree c.args.m.now.words)) c.deref.ensures.value in
     let nexts : c.in_ok-nexts.nexts.items ≡ first_nexts (module_tree c.args.m.now).nets =
-    (let all = length-map c.args.m.now.nets.items net_tree in
+    (let all = length-map c.args.m.now.nets.items (net_tree c.args.m.now.words) in
     let count = c.len.ensures in
     let e : c.len.result ≡ length (module_tree c.args.m.now).nets = omega arith in
     c.in_ok-nexts.ensures ∙ ap (λ n. replicate n Keep) e) in
@@ -31,15 +33,16 @@ connect_all-requires c = record {
   long = c.requires.nets.long;
   unconnected = unconnected_grows (module_tree c.args.m.now) c.args.from c.args.nets.now c.args.nl.now c.act_items.new.nl c.in_ok-act_items.ensures.grows
       c.requires.free;
-  fits = rw (sym c.requires.names) (rw c.deref-2.ensures.value c.in_ok-act_items.ensures.nexts);
+  fits = rw (sym (table_nets c.requires.names)) (rw c.deref-2.ensures.value c.in_ok-act_items.ensures.nexts);
 }
 
 pub returns-clause-steps : goal.returns-clause-steps
 returns-clause-steps c = λ at named run is t l.
     let m = module_tree c.args.m.now in
-    let items : map item_tree c.deref.result.now ≡ (module_tree c.args.m.now).items = ap (map item_tree) c.deref.ensures.value in
+    let items : map (item_tree c.args.m.now.words) c.deref.result.now ≡ (module_tree c.args.m.now).items = ap
+    (map (item_tree c.args.m.now.words)) c.deref.ensures.value in
     let nexts : c.in_ok-nexts.nexts.items ≡ first_nexts (module_tree c.args.m.now).nets =
-    (let all = length-map c.args.m.now.nets.items net_tree in
+    (let all = length-map c.args.m.now.nets.items (net_tree c.args.m.now.words) in
     let count = c.len.ensures in
     let e : c.len.result ≡ length (module_tree c.args.m.now).nets = omega arith in
     c.in_ok-nexts.ensures ∙ ap (λ n. replicate n Keep) e) in

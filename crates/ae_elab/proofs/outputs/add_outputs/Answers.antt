@@ -12,25 +12,25 @@ show-requires-clause-net c = λ y t h.
     let m = module_tree c.args.m.now in
     let items = c.args.m.now.nets.items in
     let all = c.args.m.now.nets.ok.0 in
-    let trees = length-map items net_tree in
+    let trees = length-map items (net_tree c.args.m.now.words) in
     let long = c.requires.nets.long in
     let len = c.len-place-end.ensures in
-    let found = at_turn net_tree items c.loop-place.place c.index.result.now (omega arith) c.index.ensures in
+    let found = at_turn (net_tree c.args.m.now.words) items c.loop-place.place c.index.result.now (omega arith) c.index.ensures in
     let net = got c.args.nets.now c.loop-place.place None (Some y) (omega arith) h in
     rw c.loop-place.invariant.cells (output_net c.index.result.now.kind c.args.nl.now.cells y.0 c.index.result.now.width t
-    (c.requires.nets.each c.loop-place.place (net_tree c.index.result.now) y found net))
+    (c.requires.nets.each c.loop-place.place (net_tree c.args.m.now.words c.index.result.now) y found net))
 
 pub loop-place-preserved : goal.loop-place-preserved
 loop-place-preserved c =
     let m = module_tree c.args.m.now in
     let items = c.args.m.now.nets.items in
     let all = c.args.m.now.nets.ok.0 in
-    let trees = length-map items net_tree in
+    let trees = length-map items (net_tree c.args.m.now.words) in
     let long = c.requires.nets.long in
     let len = c.len-place-end.ensures in
-    let x = net_tree c.index.result.now in
+    let x = net_tree c.args.m.now.words c.index.result.now in
     let k = c.loop-place.place in
-    let found = at_turn net_tree items k c.index.result.now (omega arith) c.index.ensures in
+    let found = at_turn (net_tree c.args.m.now.words) items k c.index.result.now (omega arith) c.index.ensures in
     let is = c.in_ok-show.ensures in
     let some = length-take k m.nets in
     let most = length-take k c.args.nets.now in
@@ -39,7 +39,7 @@ loop-place-preserved c =
       outlets =
           ap (λ (u : Circuit). map (λ (o : Outlet). o.net.0) u.outlets) is
           ∙ shown_more (take k m.nets) _ (take k c.args.nets.now) _ x _ c.loop-place.nl.outlets (most ∙ ap (λ (n : ℕ). min k n) long ∙ sym some)
-          (take_turn net_tree items k c.index.result.now (omega arith) c.index.ensures) (take_more c.args.nets.now k None (omega arith))
+          (take_turn (net_tree c.args.m.now.words) items k c.index.result.now (omega arith) c.index.ensures) (take_more c.args.nets.now k None (omega arith))
           (λ t. let y = c.requires.each k x found t in (y.0, got_or c.args.nets.now k None (Some y.0) y.1)) c.loop-place.invariant.outlets;
       plain = rw is (shown_plain _ _ c.loop-place.nl.outlets c.loop-place.invariant.plain);
       few = rw is (shown_few _ _ c.loop-place.nl.outlets k c.loop-place.invariant.few);

@@ -1,3 +1,4 @@
+use Rattle.ae_vread.specs.Roots.{numbered}
 use Rattle.std.proofs.Common.{arith}
 use Rattle.ae_vread.specs.View.{expr_tree}
 use Rattle.ae_order.proofs.SoundLaws.{sound_high}
@@ -5,7 +6,7 @@ use Rattle.ae_express.proofs.given.lower_at_least.Goals as goal
 
 pub lower-requires-clause-high : goal.lower-requires-clause-high
 lower-requires-clause-high c =
-    let most = sound_high c.args.names.now (expr_tree c.args.e.now) c.requires.sound in
+    let most = sound_high c.args.names.now.nets (expr_tree c.args.names.now.words (numbered c.args.e)) c.requires.sound in
     let own = c.in_ok-own.ensures.own in
     let wide = c.max-wide.ensures in
     omega arith
@@ -15,7 +16,7 @@ lower-requires-clause-widths c = record { before = _; whole = c.in_ok-own.ensure
 
 pub returns-clause-high : goal.returns-clause-high
 returns-clause-high c =
-    let most = sound_high c.args.names.now (expr_tree c.args.e.now) c.requires.sound in
+    let most = sound_high c.args.names.now.nets (expr_tree c.args.names.now.words (numbered c.args.e)) c.requires.sound in
     let own = c.in_ok-own.ensures.own in
     let wide = c.max-wide.ensures in
     omega arith

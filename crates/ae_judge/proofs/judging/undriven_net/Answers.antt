@@ -9,4 +9,4 @@ pub returns : goal.returns
 returns c =
     let m = module_tree c.args.m.now in
     subst (IsFirstOf (HasUndriven m)) (sym (c.first_undriven.ensures ∙ (λ i. first_from (λ _. is_undriven (c.requires.driven i)) 0
-    (map net_tree (c.deref.ensures.value i))))) (undriven_first m)
+    (map (net_tree (c.requires.names i).words) (c.deref.ensures.value i))))) (undriven_first m)

@@ -10,6 +10,7 @@ pub returns : goal.returns
 returns c =
     let m = module_tree c.args.m.now in
     IfOk-weaker c.first_unknown.result _ _
-    (λ o e. subst (IsFirstOf (HasUnknown m)) (sym (e ∙ (λ i. first_from (uses_unknown (c.requires.names i)) 1 (map item_tree (c.deref.ensures.value i)))))
+    (λ o e. subst (IsFirstOf (HasUnknown m)) (sym (e ∙ (λ i. first_from (uses_unknown (c.requires.names i).nets) 1
+    (map (item_tree (c.requires.names i).words) (c.deref.ensures.value i)))))
     (unknown_first m c.requires.shape))
     c.first_unknown.ensures

@@ -1,4 +1,4 @@
-use Rattle.std.proofs.Common.{◌≡◌, ◌∙◌, sym, ap, subst, map}
+use Rattle.std.proofs.Common.{◌≡◌, ◌∙◌, sym, subst, map}
 use Rattle.ae_vread.specs.View.{net_tree, item_tree, module_tree}
 use Rattle.ae_judge.specs.Faults.{HasWidth, is_too_wide_in_item}
 use Rattle.ae_judge.specs.Judging.{IsFirstOf, earlier, first_from, first_too_large}
@@ -9,7 +9,8 @@ pub returns : goal.returns
 returns c =
     let m = module_tree c.args.m.now in
     let large : c.first_too_large.result ≡ first_too_large m.nets = c.first_too_large.ensures ∙
-    ap (λ xs. first_too_large (map net_tree xs)) c.deref.ensures.value in
+    (λ i. first_too_large (map (net_tree (c.requires.names i).words) (c.deref.ensures.value i))) in
     let wide : c.first_too_wide.result ≡ first_from (λ _. is_too_wide_in_item m.nets) 1 m.items =
-    c.first_too_wide.ensures ∙ (λ i. first_from (λ _. is_too_wide_in_item (c.requires.names i)) 1 (map item_tree (c.deref-2.ensures.value i))) in
+    c.first_too_wide.ensures ∙ (λ i. first_from (λ _. is_too_wide_in_item (c.requires.names i).nets) 1
+    (map (item_tree (c.requires.names i).words) (c.deref-2.ensures.value i))) in
     subst (IsFirstOf (HasWidth m)) (sym (c.earlier.ensures ∙ (λ i. earlier (large i) (wide i)))) (width_first m c.requires.shape)

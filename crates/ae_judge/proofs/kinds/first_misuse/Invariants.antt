@@ -1,11 +1,10 @@
-use Rattle.std.proofs.Common.{◌≡◌, ◌+◌, drop, map, Bor, List, ℕ}
-use Rattle.std.specs.Prelude.{option_map}
-use Rattle.ae_vread.specs.View.{item_tree}
+use Rattle.std.proofs.Common.{◌≡◌, ◌+◌, drop, map, option_map}
+use Rattle.ae_vread.specs.View.{item_tree, word_at}
 use Rattle.ae_judge.specs.Judging.{first_from, misuses}
 use Rattle.ae_judge.proofs.kinds.first_misuse.Given as goal
 
-abbrev pub invariant-loop-item : goal.invariant-loop-item
-invariant-loop-item l =
-    (l.number ≡ l.item-index) × (first_from (λ _. misuses l.names (option_map (λ (c : Bor (List ℕ)). c.now) l.clock)) (l.number + 1)
-    (map item_tree (drop l.item-index l.items)) ≡ first_from (λ _. misuses l.names (option_map (λ (c : Bor (List ℕ)). c.now) l.clock)) 1
-    (map item_tree l.items))
+abbrev pub invariant-item : goal.invariant-item
+invariant-item l =
+    (l.number ≡ l.item-index) × (first_from (λ _. misuses l.names.nets (option_map (word_at l.names.words) l.clock)) (l.number + 1)
+    (map (item_tree l.names.words) (drop l.item-index l.items)) ≡ first_from (λ _. misuses l.names.nets (option_map (word_at l.names.words) l.clock)) 1
+    (map (item_tree l.names.words) l.items))

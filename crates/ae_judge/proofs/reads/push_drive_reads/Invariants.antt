@@ -1,9 +1,10 @@
-use Rattle.std.proofs.Common.{◌≡◌, ◌++◌, take, map}
-use Rattle.std.specs.Prelude.{flat_map}
-use Rattle.ae_vread.specs.View.{drive_tree}
+use Rattle.std.proofs.Common.{ℕ, List, ◌≡◌, ◌++◌, flat_map, map, take}
+use Rattle.ae_vread.specs.View.{drive_tree, word_at}
 use Rattle.ae_judge.specs.Names.{drive_reads}
-use Rattle.ae_judge.proofs.Reading.{texts}
 use Rattle.ae_judge.proofs.reads.push_drive_reads.Given as goal
 
-abbrev pub invariant-loop-drive : goal.invariant-loop-drive
-invariant-loop-drive l = texts l.into.items ≡ texts l.initial.into.items ++ flat_map drive_reads (map drive_tree (take l.drive-index l.drives))
+-- the names of the drives so far
+abbrev pub invariant-drive : goal.invariant-drive
+invariant-drive l =
+    (ws : List (List ℕ)) → map (word_at ws) l.into.items ≡ map (word_at ws) l.fn.into.items
+    ++ flat_map drive_reads (map (drive_tree ws) (take l.drive-index l.drives))

@@ -1,8 +1,9 @@
-use Rattle.std.proofs.Common.{◌≡◌, ◌++◌, take, map}
-use Rattle.ae_vread.specs.View.{drive_tree}
+use Rattle.std.proofs.Common.{ℕ, List, ◌≡◌, ◌++◌, map, take}
+use Rattle.ae_vread.specs.View.{drive_tree, word_at}
 use Rattle.ae_judge.specs.Names.{target_of}
-use Rattle.ae_judge.proofs.Reading.{texts}
 use Rattle.ae_judge.proofs.reads.push_drive_targets.Given as goal
 
-abbrev pub invariant-loop-drive : goal.invariant-loop-drive
-invariant-loop-drive l = texts l.into.items ≡ texts l.initial.into.items ++ map target_of (map drive_tree (take l.drive-index l.drives))
+-- the names of the drives so far
+abbrev pub invariant-drive : goal.invariant-drive
+invariant-drive l =
+    (ws : List (List ℕ)) → map (word_at ws) l.into.items ≡ map (word_at ws) l.fn.into.items ++ map target_of (map (drive_tree ws) (take l.drive-index l.drives))

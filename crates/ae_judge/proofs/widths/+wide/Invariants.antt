@@ -1,13 +1,29 @@
-use Rattle.std.proofs.Common.{◌≡◌, false, take, map}
-use Rattle.std.specs.Prelude.{min, sum_by}
-use Rattle.std.specs.List.{list_any}
+use Rattle.std.proofs.Common.{ℕ, ◌≡◌, ◌≤◌, ◌+◌, ◌*◌, ◌||◌}
+use Rattle.std.specs.Prelude.{min, nat_lt}
+use Rattle.ae_vread.specs.ModuleTree.{concat_more}
+use Rattle.ae_vread.specs.Numbered.{parts_in}
+use Rattle.ae_vread.specs.Roots.{numbered}
 use Rattle.ae_vread.specs.View.{expr_tree}
 use Rattle.ae_judge.specs.Widths.{own_width}
 use Rattle.ae_judge.specs.Faults.{is_too_wide}
 use Rattle.ae_judge.proofs.widths.+wide.Given as goal
 
-abbrev pub invariant-total_within-loop-part : goal.invariant-total_within-loop-part
-invariant-total_within-loop-part l = record {
-  none : list_any (λ s. is_too_wide l.names (expr_tree s)) (take l.part-index l.parts) ≡ false;
-  total : l.total ≡ min (sum_by (own_width l.names) (map expr_tree (take l.part-index l.parts))) 65;
-}
+abbrev pub decreases-width_within : goal.decreases-width_within
+decreases-width_within l = 2 * parts_in (numbered l.value) + 1
+
+abbrev pub decreases-total_within : goal.decreases-total_within
+decreases-total_within l = 2 * (parts_in (numbered l.first) + parts_in (numbered l.rest)) + 2
+
+-- what is left decides, beside the widths so far
+abbrev pub invariant-total_within-part : goal.invariant-total_within-part
+invariant-total_within-part l =
+    let tree = expr_tree l.names.words in
+    let whole = concat_more (tree (numbered l.fn.first)) (tree (numbered l.fn.rest)) in
+    (so_far : ℕ) × (l.total ≡ min so_far 65)
+    × (own_width l.names.nets whole ≡ so_far + own_width l.names.nets (tree (numbered l.parts)))
+    × (is_too_wide l.names.nets whole ≡ (is_too_wide l.names.nets (tree (numbered l.parts)) || nat_lt 64
+    (so_far + own_width l.names.nets (tree (numbered l.parts)))))
+    × (parts_in (numbered l.parts) ≤ parts_in (numbered l.fn.rest))
+
+abbrev pub decreases-total_within-part : goal.decreases-total_within-part
+decreases-total_within-part l = parts_in (numbered l.parts)

@@ -3,5 +3,5 @@ use Rattle.ae_vread.specs.View.{net_tree}
 use Rattle.ae_judge.specs.Judging.{first_too_large}
 use Rattle.ae_judge.proofs.widths.first_too_large.Given as goal
 
-abbrev pub invariant-loop-net : goal.invariant-loop-net
-invariant-loop-net l = first_too_large (map net_tree (drop l.net-index l.nets)) ≡ first_too_large (map net_tree l.nets)
+abbrev pub invariant-net : goal.invariant-net
+invariant-net l = first_too_large (map (net_tree l.names.words) (drop l.net-index l.nets)) ≡ first_too_large (map (net_tree l.names.words) l.nets)

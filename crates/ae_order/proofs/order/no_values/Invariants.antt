@@ -1,10 +1,9 @@
-use Rattle.std.proofs.Common.{◌≡◌, length, map, replicate, None}
-use Rattle.std.specs.Prelude.{option_map}
-use Rattle.ae_vread.specs.View.{expr_tree}
+use Rattle.std.proofs.Common.{ℕ, List, ◌≡◌, length, map, replicate, None}
+use Rattle.ae_order.specs.Drives.{value_tree}
 use Rattle.ae_order.proofs.order.no_values.Given as goal
 
-abbrev pub invariant-loop-place : goal.invariant-loop-place
-invariant-loop-place l = record {
+abbrev pub invariant-place : goal.invariant-place
+invariant-place l = record {
   long : length l.values.items ≡ l._place;
-  none : map (λ v. option_map (λ e. expr_tree e.now) v) l.values.items ≡ replicate l._place None;
+  none : (ws : List (List ℕ)) → map (value_tree ws) l.values.items ≡ replicate l._place None;
 }

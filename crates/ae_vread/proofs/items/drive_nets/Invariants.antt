@@ -1,8 +1,9 @@
-use Rattle.std.proofs.Common.{◌≡◌, take, map}
-use Rattle.ae_vread.specs.View.{net_tree, drive_tree}
-use Rattle.ae_vread.specs.ItemReading.{drive_nets}
+use Rattle.std.proofs.Common.{◌≡◌, ◌++◌, take, map}
+use Rattle.ae_vread.specs.declared.module.Drive.{Drive}
+use Rattle.ae_vread.specs.declared.module.NetKind.TheVariants.{Wire}
+use Rattle.ae_vread.specs.Read.{net_of}
 use Rattle.ae_vread.proofs.items.drive_nets.Given as goal
 
 -- the names so far
 abbrev pub invariant-each : goal.invariant-each
-invariant-each l = map net_tree l.nets.items ≡ drive_nets l.high l.item (map drive_tree (take l.drive-index l.drives))
+invariant-each l = l.nets.items ≡ l.fn.nets.items ++ map (λ (d : Drive). net_of d.name l.high Wire l.item) (take l.drive-index l.drives)

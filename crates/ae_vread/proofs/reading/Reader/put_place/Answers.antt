@@ -1,0 +1,20 @@
+use Rattle.std.proofs.Common.{refl}
+use Rattle.ae_vread.specs.ModuleTree as m
+use Rattle.ae_vread.specs.Numbered as n
+use Rattle.ae_vread.specs.StmtReading.{stmt_found}
+use Rattle.ae_vread.proofs.Meanings.{no_more, named_kept, deep_then}
+use Rattle.ae_vread.proofs.reading.Reader.put_place.Goals as goal
+
+pub returns-clause-read : goal.returns-clause-read
+returns-clause-read c name x below word h = (
+  stmt_found (m.put name (m.place c.args.place) x.tree) c.in_ok-depth.depth x.rest,
+  deep_then _ _ _ c.in_ok-depth.depth h.deep c.in_ok-depth.ensures,
+  record {
+    top = n.put c.args.name (n.place c.args.place) h.value;
+    pieces = c.in_ok-put.ensures.pieces h.value (n.place c.args.place) below h.pieces;
+    means = λ ws g. λ i. m.put (named_kept _ ws c.args.name name word g i) (m.place c.args.place) (h.means ws g i);
+    deep = refl;
+    rest = h.rest;
+  },
+  no_more c.args.self.now.words,
+)
