@@ -1,5 +1,5 @@
 -- A simulator before the first clock.
-use Rattle.std.proofs.Common.{ℕ, ◌≡◌, ◌%◌, ◌^◌, List, [], ◌∷◌, length, map, replicate, Some, slice_get, arith, refl, ap, sym, ◌∙◌}
+use Rattle.std.proofs.Common.{ℕ, ◌≡◌, ◌%◌, ◌^◌, ◌<◌, List, [], ◌∷◌, length, map, replicate, Some, slice_get, get_or, arith, refl, ap, sym, ◌∙◌}
 use Rattle.std.specs.Option.{option_map}
 use Rattle.std.proofs.lemmas.Option.{slice_get-map}
 use Rattle.ae_netlist.specs.declared.cell.Cell.{Cell}
@@ -7,13 +7,12 @@ use Rattle.ae_netlist.specs.declared.cell.Cell.TheVariants.{Mem}
 use Rattle.ae_netlist.specs.declared.cell.SizedCell.{SizedCell}
 use Rattle.ae_netlist.specs.declared.cell.Outlet.{Outlet}
 use Rattle.ae_netlist.specs.Circuit.{depth_in_cell}
-use Rattle.ae_netlist.specs.Counts.{is_register, is_memory, cells_of}
+use Rattle.ae_netlist.specs.Counts.{is_register, is_memory, cells_of, number_of}
 use Rattle.ae_netlist.specs.Rows.{filled}
 use Rattle.ae_netlist.proofs.Given.{fill_begins_so}
-use Rattle.ae_sim.specs.declared.plan.Step.{Step}
 use Rattle.ae_sim.specs.declared.plan.Register.{Register}
 use Rattle.ae_sim.specs.declared.plan.Memory.{Memory}
-use Rattle.ae_sim.specs.Planned.{AreSteps, IsPlanned, MemoryTree, WritesAs, held_of, memory_for, memory_tree, next_of, register_for, tree_of}
+use Rattle.ae_sim.specs.Planned.{IsPlanned, MemoryTree, WritesAs, held_of, memory_for, memory_tree, next_of, register_for, tree_of}
 use Rattle.ae_sim.specs.Playing.{HasPlayed}
 
 held_filled : (fill : ℕ) (xs : List SizedCell) → map (λ (r : Register). r.held) (map (register_for fill) xs) ≡ map (λ (s : SizedCell). fill % 2 ^ s.width) xs
@@ -64,12 +63,13 @@ begun cells outlets fill words registers memories e = rw e
       memories = λ run n sized p l found is. sym (p.begins.memories n sized l found is);
     })
 
-pub planned : (cells : List SizedCell) (steps : List Step) (words : List ℕ) (fill : ℕ) (registers : List Register) (memories : List Memory)
-    → AreSteps cells (length cells) steps → length words ≡ length cells
+pub planned : (cells : List SizedCell) (numbers : List ℕ) (words : List ℕ) (fill : ℕ) (registers : List Register) (memories : List Memory)
+    → length numbers ≡ length cells → ((n : ℕ) → n < length cells → get_or numbers n 0 ≡ number_of is_memory cells n) → length words ≡ length cells
     → registers ≡ map (register_for fill) (cells_of is_register cells) → map memory_tree memories ≡ map (memory_for fill) (cells_of is_memory cells)
-    → IsPlanned cells steps words registers memories
-planned cells steps words fill registers memories s long r m = record {
-  each_step = s;
+    → IsPlanned cells numbers words registers memories
+planned cells numbers words fill registers memories all counts long r m = record {
+  numbered = all;
+  counts = counts;
   long = long;
   held = rw (is_filled cells fill registers memories r m) (fill_begins_so cells fill);
   nexts = ap (map (λ (x : Register). x.next)) r ∙ nexts_filled fill (cells_of is_register cells);

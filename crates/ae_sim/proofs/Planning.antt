@@ -1,19 +1,15 @@
 -- Counts and lists of the cells of a kind, one cell after the other.
 use Rattle.std.proofs.Common.{ℕ, ◌≡◌, ◌+◌, ◌<◌, ◌≤◌, inl, inr, List, [], ◌∷◌, ◌++◌, length, map, take, Some, slice_get, get_or, Bool, true, false, cond, arith, refl, ap, sym, ◌∙◌}
 use Rattle.std.proofs.lemmas.Bool.{cases_lt}
-use Rattle.std.proofs.lemmas.List.{get_or_append_left, get_or_push, take_more, map-append, length-take, length_push, take_all}
+use Rattle.std.proofs.lemmas.List.{get_or_append_left, get_or_push, take_more, map-append, length-take, take_all}
 use Rattle.std.proofs.lemmas.List.Elements.{filter-append}
 use Rattle.std.proofs.lemmas.List.Sums.{count_by-le-length}
-use Rattle.std.proofs.lemmas.Option.{slice_get_within, get_or_from_slice_get}
+use Rattle.std.proofs.lemmas.Option.{slice_get_within, slice_get-get_or, get_or_from_slice_get}
 use Rattle.ae_netlist.specs.declared.cell.Cell.{Cell}
-use Rattle.ae_netlist.specs.declared.cell.Cell.TheVariants.{Mem}
+use Rattle.ae_netlist.specs.declared.cell.Cell.TheVariants.{Const}
 use Rattle.ae_netlist.specs.declared.cell.SizedCell.{SizedCell}
-use Rattle.ae_netlist.specs.Circuit.{IsPeek}
 use Rattle.ae_netlist.specs.Counts.{count_of, number_of, cells_of}
 use Rattle.ae_netlist.proofs.Counting.{count_push}
-use Rattle.ae_netlist.proofs.Gets.{get_pushed, get_left}
-use Rattle.ae_sim.specs.declared.plan.Step.{Step}
-use Rattle.ae_sim.specs.Planned.{AreSteps, step_for}
 
 taken_next : (cells : List SizedCell) (n : ℕ) (sized : SizedCell) → slice_get cells n ≡ Some sized → take (n + 1) cells ≡ take n cells ++ sized ∷ []
 taken_next cells n sized h =
@@ -57,27 +53,11 @@ counted_next words f n w long e h i l =
       | inr g ↦ let s : i ≡ n = omega (arith, l, g) in get_or_push words w 0 i (long ∙ sym s) ∙ (e ∙ ap f (sym s))
     ]
 
-pub steps_next : (cells : List SizedCell) (n : ℕ) (steps : List Step) (step : Step)
-    → ((sized : SizedCell) → slice_get cells n ≡ Some sized → step ≡ step_for cells n sized.width sized.cell) → AreSteps cells n steps
-    → AreSteps cells (n + 1) (steps ++ step ∷ [])
-steps_next cells n steps step is h = record {
-  long = omega (arith, length_push steps step, h.long);
-  each = λ i sized l found.
-      elim (cases_lt i n) [
-        | inl b ↦ get_left steps (step ∷ []) i _ (h.each i sized b found)
-        | inr g ↦
-            let s : i ≡ length steps = omega (arith, l, g, h.long) in
-            let e : i ≡ n = omega (arith, l, g) in
-            ap (slice_get (steps ++ step ∷ [])) s ∙ (get_pushed steps step ∙
-            ap (λ (x : Step). Some x) (is sized (ap (slice_get cells) (sym e) ∙ found) ∙ ap (λ k. step_for cells k sized.width sized.cell) (sym e)))
-      ];
-}
-
--- a memory that a cell looks into stands before it
-pub peek_below : (cells : List SizedCell) (n width m at : ℕ) → IsPeek (take n cells) width m at → m < length cells
-peek_below cells n width m at h =
-    let of : SizedCell = record { width = width; cell = Mem h.depth h.memory.at h.memory.next h.memory.enable } in
-    omega (arith, slice_get_within (take n cells) m of h.memory.found, length-take n cells)
+-- where there is a cell
+pub sized_there : (cells : List SizedCell) (n : ℕ) → n < length cells → (sized : SizedCell) × (slice_get cells n ≡ Some sized)
+sized_there cells n l =
+    let d : SizedCell = record { width = 0; cell = Const 0 } in
+    (get_or cells n d, slice_get-get_or cells n d l)
 
 pub same_sized : (cells : List SizedCell) (n : ℕ) (a b : SizedCell) → slice_get cells n ≡ Some a → slice_get cells n ≡ Some b → a ≡ b
 same_sized cells n a b h g = let both : Some a ≡ Some b = sym h ∙ g in cc

@@ -1,4 +1,4 @@
--- What is decided for each cell when a simulator is made.
+-- What a clock does for each cell, and what a simulator knows of its netlist.
 use Rattle.std.specs.Prelude.{◌≡◌, ℕ, ◌-◌, ◌<◌, ◌≤◌, ◌^◌, ◌%◌, ◌==◌, false, List, [], length, map, replicate, Some, slice_get, slice_set, get_or, if◌then◌else◌}
 use Rattle.ae_word.specs.WordTable.{OperandsFit, is_signed, result_width_of, word_result}
 use Rattle.ae_netlist.specs.declared.cell.Cell.{Cell}
@@ -20,12 +20,6 @@ step_for cells n width (Op op args) = Made op (2 ^ width - 1) (operand args 0) (
 step_for cells n width (Reg next) = Held (number_of is_register cells n)
 step_for cells n width (Mem depth at next enable) = Fixed 0
 step_for cells n width (Peek mem at) = Seen (number_of is_memory cells mem.0) at.0
-
--- the steps of the cells before a number
-pub record AreSteps (cells : List SizedCell) (n : ℕ) (steps : List Step) : Type 0 where
-  pub long : length steps ≡ n
-  pub each : (i : ℕ) (sized : SizedCell) → i < n → slice_get cells i ≡ Some sized
-      → slice_get steps i ≡ Some (step_for cells i sized.width sized.cell)
 
 abbrev pub next_of : Cell → ℕ
 next_of (Input port) = 0
@@ -127,9 +121,10 @@ FitBelow cells words n =
     (i : ℕ) (sized : SizedCell) → i < n → slice_get cells i ≡ Some sized → get_or words i 0 < 2 ^ sized.width
 
 -- what a simulator knows of its netlist
-pub record IsPlanned (cells : List SizedCell) (steps : List Step) (words : List ℕ) (registers : List Register)
+pub record IsPlanned (cells : List SizedCell) (numbers : List ℕ) (words : List ℕ) (registers : List Register)
     (memories : List Memory) : Type 0 where
-  pub each_step : AreSteps cells (length cells) steps
+  pub numbered : length numbers ≡ length cells
+  pub counts : (n : ℕ) → n < length cells → get_or numbers n 0 ≡ number_of is_memory cells n
   pub long : length words ≡ length cells
   pub held : AreFirsts cells (held_of registers memories)
   pub nexts : map (λ r. r.next) registers ≡ map (λ s. next_of s.cell) (cells_of is_register cells)

@@ -1,4 +1,4 @@
-//! Stepping a netlist clock by clock. What each cell needs is decided once, when a simulator is made.
+//! Stepping a netlist clock by clock, over its own cells.
 #![tactic(auto)]
 
 mod gate;

@@ -1,14 +1,15 @@
-// What a simulator decides for each cell once.
+// What a clock does for each cell, and what is held from one clock to the next.
 
 ghost use Rattle.std.specs.Prelude.{◌≡◌, ◌<◌, ◌≤◌, ◌+◌, ◌-◌, ◌%◌, ◌^◌, ℕ, length, get_or, map, slice_get, Some, IfOk, OnOk, cond, ◌++◌, ◌∷◌, []};
+ghost use Rattle.ae_netlist.specs.Circuit.{IsFormed};
 ghost use Rattle.ae_netlist.specs.Counts.{cells_of, is_input, is_memory, is_register, number_of};
-ghost use Rattle.ae_sim.specs.Planned.{AreSteps, filled_memory, memory_for, memory_tree, next_of, register_for, step_for};
+ghost use Rattle.ae_sim.specs.Planned.{filled_memory, memory_for, memory_tree, next_of, register_for, step_for};
 
 use ae_netlist::{Cell, NetId, Netlist, SizedCell};
 use ae_word::WordOp;
 use std::alloc::{AllocError, Global};
 
-/// What the word of a net is made of in each clock.
+/// What the word of a net is made of in a clock.
 #[derive(Clone, Copy)]
 pub enum Step {
     /// Always the same word.
@@ -53,7 +54,7 @@ pub fn memory_numbers(alloc: Global, nl: &Netlist) -> Result<Vec<u32>, AllocErro
     ensures long { IfOk result (λ v. length v.items ≡ length nl.now.cells) }
     ensures counts { IfOk result (λ v. (n : ℕ) → n < length nl.now.cells → get_or v.items n 0 ≡ number_of is_memory nl.now.cells n) }
 {
-    let mut numbers = Vec::new(alloc);
+    let mut numbers = Vec::with_capacity(alloc, nl.len() as usize)?;
     let mut before = 0u32;
     for n in 0..nl.len() {
         numbers.push(before)?;
@@ -72,7 +73,8 @@ fn one_if_memory(cell: Cell) -> u32
     }
 }
 
-fn one_if_input(cell: Cell) -> u32
+/// 1 for an input, and else 0.
+pub fn one_if_input(cell: Cell) -> u32
     ensures { result ≡ cond (is_input cell) 1 0 }
 {
     match cell {
@@ -82,7 +84,8 @@ fn one_if_input(cell: Cell) -> u32
     }
 }
 
-fn one_if_register(cell: Cell) -> u32
+/// 1 for a register, and else 0.
+pub fn one_if_register(cell: Cell) -> u32
     ensures { result ≡ cond (is_register cell) 1 0 }
 {
     match cell {
@@ -111,17 +114,17 @@ fn mask_of(width: u32) -> u64
     ((1u128 << width) - 1) as u64
 }
 
-/// The step of one cell, with the numbers of inputs and registers before it.
-fn step_of(nl: &Netlist, n: u32, inputs: u32, registers: u32, memories: &[u32]) -> Step
-    requires there { n < length nl.now.cells }
-    requires inputs { inputs ≡ number_of is_input nl.now.cells n }
-    requires registers { registers ≡ number_of is_register nl.now.cells n }
-    requires long { length memories.now ≡ length nl.now.cells }
-    requires counts { (m : ℕ) → m < length nl.now.cells → get_or memories.now m 0 ≡ number_of is_memory nl.now.cells m }
-    ensures { (sized : SizedCell) → slice_get nl.now.cells n ≡ Some sized → result ≡ step_for nl.now.cells n sized.width sized.cell }
+/// The step of one cell, by how many inputs and registers stand before it, and how many memories before each net.
+pub fn step_of(cells: &[SizedCell], n: usize, inputs: u32, registers: u32, memories: &[u32]) -> Step
+    requires formed { IsFormed cells.now }
+    requires there { n < length cells.now }
+    requires inputs { inputs ≡ number_of is_input cells.now n }
+    requires registers { registers ≡ number_of is_register cells.now n }
+    requires long { length memories.now ≡ length cells.now }
+    requires counts { (m : ℕ) → m < length cells.now → get_or memories.now m 0 ≡ number_of is_memory cells.now m }
+    ensures { (sized : SizedCell) → slice_get cells.now n ≡ Some sized → result ≡ step_for cells.now n sized.width sized.cell }
 {
-    nl.formed();
-    let sized = cell_at(nl, n);
+    let sized = cells[n];
     match sized.cell {
         Cell::Input(_) => Step::Taken(inputs),
         Cell::Const(word) => Step::Fixed(word),
@@ -139,24 +142,6 @@ fn step_of(nl: &Netlist, n: u32, inputs: u32, registers: u32, memories: &[u32]) 
             at: at.0,
         },
     }
-}
-
-/// The steps of all cells.
-pub fn steps_of(alloc: Global, nl: &Netlist, memories: &[u32]) -> Result<Vec<Step>, AllocError>
-    requires long { length memories.now ≡ length nl.now.cells }
-    requires counts { (m : ℕ) → m < length nl.now.cells → get_or memories.now m 0 ≡ number_of is_memory nl.now.cells m }
-    ensures { IfOk result (λ v. AreSteps nl.now.cells (length nl.now.cells) v.items) }
-{
-    let mut steps = Vec::new(alloc);
-    let mut inputs = 0u32;
-    let mut registers = 0u32;
-    for n in 0..nl.len() {
-        steps.push(step_of(nl, n, inputs, registers, memories))?;
-        let cell = cell_at(nl, n).cell;
-        inputs += one_if_input(cell);
-        registers += one_if_register(cell);
-    }
-    Ok(steps)
 }
 
 /// The registers, each of which begins as the fill.

@@ -1,15 +1,16 @@
 // One clock: the words of all cells, and then the edge.
 
 ghost use Rattle.std.specs.Prelude.{◌≡◌, ◌<◌, ℕ, length, get_or, map, slice_get, Some};
+ghost use Rattle.ae_netlist.specs.Counts.{is_memory, number_of};
 ghost use Rattle.ae_netlist.specs.Rows.{AreFirsts, AreInputs};
 ghost use Rattle.ae_netlist.proofs.Given.{store_in, word_in};
 ghost use Rattle.ae_netlist.proofs.Settled.{IsSettled};
 ghost use Rattle.ae_sim.specs.declared.plan.Register.{Register};
 ghost use Rattle.ae_sim.specs.declared.plan.Memory.{Memory};
-ghost use Rattle.ae_sim.specs.Planned.{AreSteps, FitBelow, Gives, IsAfter, IsReady, held_of, turned, written};
+ghost use Rattle.ae_sim.specs.Planned.{FitBelow, Gives, IsAfter, IsReady, held_of, turned, written};
 
 use crate::gate::compute;
-use crate::plan::{Memory, Register, Step};
+use crate::plan::{Memory, Register, Step, one_if_input, one_if_register, step_of};
 use ae_netlist::Netlist;
 
 /// The word that a step gives.
@@ -48,16 +49,18 @@ fn seen(memory: &Memory, at: u64) -> u64
     }
 }
 
-/// The words of a clock, from what registers and memories hold and from the inputs.
+/// The words of a clock, from what registers and memories hold and from the inputs; `numbers` says how many memories
+/// stand before each net.
 pub fn settle(
     nl: &Netlist,
-    steps: &[Step],
+    numbers: &[u32],
     words: &mut Vec<u64>,
     inputs: &[u64],
     registers: &[Register],
     memories: &[Memory],
 )
-    requires steps { AreSteps nl.now.cells (length nl.now.cells) steps.now }
+    requires numbers { length numbers.now ≡ length nl.now.cells }
+    requires counts { (n : ℕ) → n < length nl.now.cells → get_or numbers.now n 0 ≡ number_of is_memory nl.now.cells n }
     requires long { length words.old.items ≡ length nl.now.cells }
     requires inputs { AreInputs nl.now.cells inputs.now }
     requires held { AreFirsts nl.now.cells (held_of registers.now memories.now) }
@@ -66,9 +69,16 @@ pub fn settle(
     ensures fits { FitBelow nl.now.cells words.new.items (length nl.now.cells) }
 {
     nl.formed();
-    for n in 0..steps.len() {
-        let word = word_of(steps[n], words.as_slice(), inputs, registers, memories);
+    let mut taken = 0u32;
+    let mut kept = 0u32;
+    let cells = nl.cells();
+    for n in 0..cells.len() {
+        let step = step_of(cells, n, taken, kept, numbers);
+        let word = word_of(step, words.as_slice(), inputs, registers, memories);
         words[n] = word;
+        let cell = cells[n].cell;
+        taken += one_if_input(cell);
+        kept += one_if_register(cell);
     }
 }
 

@@ -6,7 +6,7 @@ ghost use Rattle.ae_netlist.specs.Rows.{AreInputs};
 ghost use Rattle.ae_netlist.specs.Runs.{Clock, word_at};
 ghost use Rattle.ae_sim.specs.Playing.{HasPlayed, Plays};
 
-use crate::plan::{Memory, Register, Step, memories_of, memory_numbers, registers_of, steps_of};
+use crate::plan::{Memory, Register, memories_of, memory_numbers, registers_of};
 use crate::settle::{settle, turn, write_all};
 use ae_netlist::Netlist;
 use std::alloc::{AllocError, Global};
@@ -16,7 +16,8 @@ use std::marker::Model;
 #[derive(Drop)]
 pub struct Sim<'a> {
     nl: &'a Netlist,
-    steps: Vec<Step>,
+    /// How many memories stand before each net.
+    numbers: Vec<u32>,
     words: Vec<u64>,
     registers: Vec<Register>,
     memories: Vec<Memory>,
@@ -30,7 +31,7 @@ impl<'a> Model for Sim<'a> {
 
     ghost view = { λ s. record { cells = s.nl.now.cells; outlets = s.nl.now.outlets; words = s.words.items; held = held_of s.registers.items s.memories.items } };
 
-    ghost invariant = { λ s. IsPlanned s.nl.now.cells s.steps.items s.words.items s.registers.items s.memories.items };
+    ghost invariant = { λ s. IsPlanned s.nl.now.cells s.numbers.items s.words.items s.registers.items s.memories.items };
 }
 
 impl Sim<'_> {
@@ -43,12 +44,11 @@ impl Sim<'_> {
     {
         let words = vec![in alloc; 0u64; nl.len() as usize]?;
         let numbers = memory_numbers(alloc, nl)?;
-        let steps = steps_of(alloc, nl, numbers.as_slice())?;
         let registers = registers_of(alloc, nl, fill)?;
         let memories = memories_of(alloc, nl, fill)?;
         Ok(Sim {
             nl,
-            steps,
+            numbers,
             words,
             registers,
             memories,
@@ -65,7 +65,7 @@ impl Sim<'_> {
         self.nl.formed();
         settle(
             self.nl,
-            self.steps.as_slice(),
+            self.numbers.as_slice(),
             &mut self.words,
             inputs,
             self.registers.as_slice(),

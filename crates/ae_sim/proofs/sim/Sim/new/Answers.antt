@@ -6,8 +6,8 @@ use Rattle.ae_sim.proofs.sim.Sim.new.Goals as goal
 pub invariant_of-result : goal.invariant_of-result
 invariant_of-result c =
     let long : length c.in_ok-words.words.items ≡ length c.args.nl.now.cells = grind (arith, c.in_ok-words.ensures, c.len.ensures) in
-    planned c.args.nl.now.cells c.in_ok-steps.steps.items c.in_ok-words.words.items c.args.fill c.in_ok-registers.registers.items
-    c.in_ok-memories.memories.items c.in_ok-steps.ensures long c.in_ok-registers.ensures c.in_ok-memories.ensures
+    planned c.args.nl.now.cells c.in_ok-numbers.numbers.items c.in_ok-words.words.items c.args.fill c.in_ok-registers.registers.items
+    c.in_ok-memories.memories.items c.in_ok-numbers.ensures.long c.in_ok-numbers.ensures.counts long c.in_ok-registers.ensures c.in_ok-memories.ensures
 
 pub returns-clause-begins : goal.returns-clause-begins
 returns-clause-begins c =

@@ -46,7 +46,14 @@ invariant_of-self c =
     let s = stepped c.self.inside.nl.now.cells c.self.inside.registers.items c.self.inside.memories.items c.write_all.new.memories.items words
     c.formed.ensures.cells c.self.invariant.held c.self.invariant.nexts c.self.invariant.ports
     c.settle.ensures.fits c.write_all.ensures.long after in
-    rw registers (record { each_step = c.self.invariant.each_step; long = c.settle.ensures.long; held = s.0; nexts = s.1; ports = s.2 })
+    rw registers (record {
+      numbered = c.self.invariant.numbered;
+      counts = c.self.invariant.counts;
+      long = c.settle.ensures.long;
+      held = s.0;
+      nexts = s.1;
+      ports = s.2;
+    })
 
 pub returns-clause-plays : goal.returns-clause-plays
 returns-clause-plays c = λ fill rows old.
