@@ -4,6 +4,7 @@ mod SeenLaws
 pub mod Again
 pub mod Loops
 pub mod Firsts
+pub mod Read
 pub mod Weighing
 pub mod Wide
 pub mod TokenShape

@@ -4,7 +4,7 @@ use Rattle.std.specs.Prelude.{map, flat_map, bytes_eq, find, if◌then◌else◌
 use Rattle.std.specs.List.{list_any}
 use Rattle.std.proofs.lemmas.Bool.{cases_Bool, cond-true, cond-false, both_ways, or_parts}
 use Rattle.std.proofs.lemmas.Slice.Eq.{bytes_eq-Decides}
-use Rattle.ae_judge.specs.Names.{Among}
+use Rattle.ae_judge.specs.Names.{Among, is_named}
 
 pub same_bytes : (xs ys : List ℕ) → bytes_eq xs ys ≡ true → xs ≡ ys
 same_bytes xs ys h = (bytes_eq-Decides xs ys).0 h
@@ -145,3 +145,8 @@ none_passes test [] x h a = absurd a
 none_passes test (y ∷ xs) x h a =
     let p = or_parts (test y) (list_any test xs) h in
     elim a [ inl e ↦ subst (λ u. test u ≡ false) e p.0 | inr later ↦ none_passes test xs x p.1 later ]
+
+-- without a clock no name is it
+pub none_named : (ns : List (List ℕ)) → list_any (λ n. is_named n None) ns ≡ false
+none_named [] = refl
+none_named (n ∷ ns) = none_named ns

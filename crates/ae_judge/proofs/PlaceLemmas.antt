@@ -1,20 +1,21 @@
 -- Names with places, one by one.
-use Rattle.std.proofs.Common.{ℕ, zero, suc, ◌≡◌, ◌+◌, ◌<◌, ◌≤◌, Bool, true, false, ◌||◌, ◌⊎◌, List, [], ◌∷◌, ◌++◌, length, Option, Some, None, is_some, if◌then◌else◌, refl, sym, ap, ◌∙◌, subst, inl, inr, arith, slice_get, slice_set, replicate, map, drop}
+use Rattle.std.proofs.Common.{ℕ, zero, suc, ◌≡◌, ◌+◌, ◌<◌, ◌≤◌, Bool, true, false, ◌||◌, List, [], ◌∷◌, ◌++◌, length, Option, Some, None, is_some, if◌then◌else◌, refl, sym, ap, ◌∙◌, subst, inl, inr, arith, slice_get, slice_set, replicate, map, drop}
 use Rattle.std.specs.Prelude.{IfSome, bytes_eq, find, option_and_then, option_map, take, unwrap_or, nat_eq}
 use Rattle.std.proofs.Common.{get_or}
 use Rattle.std.proofs.lemmas.List.{drop_all, drop_more, take_more, length-take, length-map, get_or-map}
 use Rattle.std.proofs.lemmas.Option.{slice_get_within, get_or_from_slice_get}
 use Rattle.ae_vread.specs.View.{net_tree, word_at}
 use Rattle.ae_vread.specs.declared.module.VNet.{VNet}
-use Rattle.std.specs.List.{list_any}
+use Rattle.std.specs.List.{AllByRecursion, IsDistinct, list_any}
+use Rattle.std.specs.Option.{option_or}
 use Rattle.std.specs.Borrow.{Bor}
-use Rattle.std.proofs.lemmas.Bool.{cases_Bool, cond-true, cond-false, both_ways}
+use Rattle.std.proofs.lemmas.Bool.{cases_Bool, cases_eq, cond-true, cond-false, both_ways}
 use Rattle.std.proofs.lemmas.Bool.Decides.{nat_tests}
 use Rattle.indexmap.specs.IndexMap.{insert_entry}
 use Rattle.std.specs.Map.{lookup}
 use Rattle.ae_vread.specs.ModuleTree.{NetTree}
 use Rattle.ae_judge.specs.Names.{net_named}
-use Rattle.ae_judge.specs.Places.{Entry, place_in, with_place, places_of, HasNames, place_named, Finds, AreNoted, ArePlaces}
+use Rattle.ae_judge.specs.Places.{Entry, place_in, with_place, places_of, HasNames, place_named, Finds, place_noted, AreNoted, ArePlaces}
 use Rattle.ae_judge.proofs.Members.{find_some, same_bytes, bytes_same, other_bytes}
 use Rattle.ae_judge.proofs.Loops.{or_false, or_assoc}
 
@@ -236,53 +237,146 @@ pub named_is : (ns : List NetTree) (n : List ℕ) (x : NetTree) → net_named ns
 unfolding net_named
 named_is ns n x h = same_bytes x.name n ((find_some (λ (y : NetTree). bytes_eq y.name n) ns x h).1)
 
--- the places of the declarations, by numbers
-pub places_found : (ws : List (List ℕ)) (ns : List NetTree) (es : List Entry) (ps : List (Option ℕ)) → Finds ns es → AreNoted ws es ps → ArePlaces ws ns ps
-places_found ws ns es ps h f k p e = sym (h (word_at ws k)) ∙ f k p e
+-- lists in which one element is set
 
-none_got : (n k : ℕ) (x : Option ℕ) → slice_get (replicate n None) k ≡ Some x → x ≡ None
-none_got zero k x e = absurd (let s : None ≡ Some x = e in cc)
-none_got (suc n) zero x e = (let s : Some None ≡ Some x = e in cc)
-none_got (suc n) (suc k) x e = none_got n k x e
+pub set_long : {X : Type 0} (xs : List X) (p : ℕ) (x : X) → length (slice_set xs p x) ≡ length xs
+set_long [] p x = refl
+set_long (y ∷ ys) zero x = refl
+set_long (y ∷ ys) (suc p) x = ap suc (set_long ys p x)
 
-pub none_noted : (ws : List (List ℕ)) (es : List Entry) (n : ℕ) → AreNoted ws es (replicate n None)
-none_noted ws es n k p e = absurd (let s : Some p ≡ None = none_got n k (Some p) e in cc)
+pub set_same : {X : Type 0} (xs : List X) (p : ℕ) (x : X) → p < length xs → slice_get (slice_set xs p x) p ≡ Some x
+set_same [] p x l = absurd (omega arith)
+set_same (y ∷ ys) zero x l = refl
+set_same (y ∷ ys) (suc p) x l = set_same ys p x (omega arith)
 
-set_got : (ps : List (Option ℕ)) (i k : ℕ) (x y : Option ℕ) → slice_get (slice_set ps i x) k ≡ Some y
-    → ((i ≡ k) × (y ≡ x)) ⊎ (slice_get ps k ≡ Some y)
-set_got [] i k x y e = absurd (let s : None ≡ Some y = e in cc)
-set_got (q ∷ qs) zero zero x y e = inl (refl, (let s : Some x ≡ Some y = e in cc))
-set_got (q ∷ qs) zero (suc k) x y e = inr e
-set_got (q ∷ qs) (suc i) zero x y e = inr e
-set_got (q ∷ qs) (suc i) (suc k) x y e = elim (set_got qs i k x y e) [
-  | inl s ↦ inl (ap suc s.0, s.1)
-  | inr g ↦ inr g
-]
+pub set_other : {X : Type 0} (xs : List X) (p q : ℕ) (x : X) → (p ≡ q → ⊥) → slice_get (slice_set xs p x) q ≡ slice_get xs q
+set_other [] p q x other = refl
+set_other (y ∷ ys) zero zero x other = absurd (other refl)
+set_other (y ∷ ys) zero (suc q) x other = refl
+set_other (y ∷ ys) (suc p) zero x other = refl
+set_other (y ∷ ys) (suc p) (suc q) x other = set_other ys p q x (λ e. other (ap suc e))
 
--- those that were noted stay so
-noted_with : (ws : List (List ℕ)) (es : List Entry) (ps : List (Option ℕ)) (m : List ℕ) (q : ℕ) → AreNoted ws es ps → AreNoted ws (with_place es m q) ps
-noted_with ws es ps m q h k p e =
-    place_with es m q (word_at ws k) ∙ ap (λ o. or_else o (if bytes_eq (word_at ws k) m then Some q else None)) (h k p e)
+-- the places of names, noted by their numbers
 
-place_put : (es : List Entry) (m : List ℕ) (q : ℕ) → is_some (place_in es m) ≡ false → place_in (with_place es m q) m ≡ Some q
-place_put es m q none =
-    place_with es m q m
-    ∙ ap (λ b. or_else (place_in es m) (if b then Some q else None)) (bytes_same m m refl)
-    ∙ ap (λ o. or_else o (Some q)) (absent (place_in es m) none)
+differs : (w : List ℕ) (vs : List (List ℕ)) (j : ℕ) → AllByRecursion (λ v. bytes_eq w v ≡ false) vs → j < length vs → w ≡ word_at vs j → ⊥
+differs w [] j a l e = absurd (omega arith)
+differs w (v ∷ vs) zero a l e = both_ways _ a.0 (bytes_same w v e)
+differs w (v ∷ vs) (suc j) a l e = differs w vs j a.1 (omega arith) e
+
+apart_at : (ws : List (List ℕ)) (i j : ℕ) → IsDistinct bytes_eq ws → i < length ws → j < length ws → word_at ws i ≡ word_at ws j → i ≡ j
+unfolding IsDistinct
+apart_at [] i j d h l e = absurd (omega arith)
+apart_at (w ∷ ws) zero zero d h l e = refl
+apart_at (w ∷ ws) zero (suc j) d h l e = absurd (differs w ws j d.0 (omega arith) e)
+apart_at (w ∷ ws) (suc i) zero d h l e = absurd (differs w ws i d.0 (omega arith) (sym e))
+apart_at (w ∷ ws) (suc i) (suc j) d h l e = ap suc (apart_at ws i j d.1 (omega arith) (omega arith) e)
+
+some_word : (ws : List (List ℕ)) (i : ℕ) → (word_at ws i ≡ [] → ⊥) → i < length ws
+some_word [] i some = absurd (some refl)
+some_word (w ∷ ws) zero some = omega arith
+some_word (w ∷ ws) (suc i) some = let l = some_word ws i some in omega arith
+
+other_place : (es : List Entry) (m : List ℕ) (q : ℕ) (v : List ℕ) → bytes_eq v m ≡ false → place_in (with_place es m q) v ≡ place_in es v
+other_place es m q v h = place_with es m q v ∙ ap (λ b. or_else (place_in es v) (if b then Some q else None)) h ∙ none (place_in es v)
   where
-    absent : (o : Option ℕ) → is_some o ≡ false → o ≡ None
-    absent None e = refl
-    absent (Some x) e = absurd (let s : true ≡ false = e in cc)
+    none : (o : Option ℕ) → or_else o None ≡ o
+    none None = refl
+    none (Some x) = refl
 
-pub noted_more : (ws : List (List ℕ)) (es : List Entry) (ps : List (Option ℕ)) (i q : ℕ) (there : Bool) → there ≡ is_some (place_in es (word_at ws i))
-    → AreNoted ws es ps → AreNoted ws (with_place es (word_at ws i) q) (if there then ps else slice_set ps i (Some q))
-noted_more ws es ps i q true t h = noted_with ws es ps (word_at ws i) q h
-noted_more ws es ps i q false t h = λ k p e. elim (set_got ps i k (Some q) (Some p) e) [
-  | inl s ↦
-      let same : q ≡ p = (let u : Some p ≡ Some q = s.1 in cc) in
-      ap (λ j. place_in (with_place es (word_at ws i) q) (word_at ws j)) (sym s.0) ∙ place_put es (word_at ws i) q (sym t) ∙ ap Some same
-  | inr g ↦ noted_with ws es ps (word_at ws i) q h k p g
-]
+this_place : (es : List Entry) (m : List ℕ) (q : ℕ) → place_in (with_place es m q) m ≡ option_or (place_in es m) (Some q)
+this_place es m q =
+    place_with es m q m ∙ ap (λ b. or_else (place_in es m) (if b then Some q else None)) (bytes_same m m refl) ∙ same (place_in es m)
+  where
+    same : (o : Option ℕ) → or_else o (Some q) ≡ option_or o (Some q)
+    same None = refl
+    same (Some x) = refl
+
+other_noted : (es : List Entry) (m : List ℕ) (q : ℕ) (v : List ℕ) → (v ≡ m → ⊥) → place_noted (with_place es m q) v ≡ place_noted es v
+other_noted es m q [] h = refl
+other_noted es m q (c ∷ cs) h = other_place es m q (c ∷ cs) (other_bytes (c ∷ cs) m h)
+
+some_noted : (es : List Entry) (v : List ℕ) → (v ≡ [] → ⊥) → place_noted es v ≡ place_in es v
+some_noted es [] some = absurd (some refl)
+some_noted es (c ∷ cs) some = refl
+
+pub note_empty : (ws : List (List ℕ)) (es : List Entry) (ps : List (Option ℕ)) (e : Option ℕ) (q : ℕ) → AreNoted ws es ps e
+    → AreNoted ws (with_place es [] q) ps (option_or e (Some q))
+note_empty ws es ps e q h = record {
+  long = h.long;
+  each = λ k l. h.each k l ∙ ap Some (sym (stays (word_at ws k)));
+  blank = ap (λ o. option_or o (Some q)) h.blank ∙ sym (this_place es [] q);
+}
+  where
+    stays : (v : List ℕ) → place_noted (with_place es [] q) v ≡ place_noted es v
+    stays [] = refl
+    stays (c ∷ cs) = other_noted es [] q (c ∷ cs) (λ s. let t : c ∷ cs ≡ [] = s in cc)
+
+noted_here : (ws : List (List ℕ)) (es : List Entry) (ps : List (Option ℕ)) (e : Option ℕ) (i : ℕ) → (word_at ws i ≡ [] → ⊥) → AreNoted ws es ps e
+    → slice_get ps i ≡ Some (place_in es (word_at ws i))
+noted_here ws es ps e i some h = h.each i (some_word ws i some) ∙ ap Some (some_noted es (word_at ws i) some)
+
+pub note_more : (ws : List (List ℕ)) (es : List Entry) (ps : List (Option ℕ)) (e : Option ℕ) (i q : ℕ) (d : Option ℕ) → IsDistinct bytes_eq ws
+    → (word_at ws i ≡ [] → ⊥) → AreNoted ws es ps e
+    → AreNoted ws (with_place es (word_at ws i) q) (slice_set ps i (option_or (get_or ps i d) (Some q))) e
+note_more ws es ps e i q d apart some h = record {
+  long = set_long ps i (option_or (get_or ps i d) (Some q)) ∙ h.long;
+  each = λ k l. elim (cases_eq k i) [
+    | inl s ↦
+        ap (slice_get (slice_set ps i (option_or (get_or ps i d) (Some q)))) s ∙ set_same ps i (option_or (get_or ps i d) (Some q)) within
+        ∙ ap Some (ap (λ o. option_or o (Some q)) (get_or_from_slice_get ps i (place_in es w) d here)
+        ∙ sym (this_place es w q) ∙ sym (some_noted (with_place es w q) w some) ∙ ap (λ j. place_noted (with_place es w q) (word_at ws j)) (sym s))
+    | inr ne ↦
+        set_other ps i k (option_or (get_or ps i d) (Some q)) (λ s. ne (sym s)) ∙ h.each k l
+        ∙ ap Some (sym (other_noted es w q (word_at ws k) (λ s. ne (apart_at ws k i apart l (some_word ws i some) s))))
+  ];
+  blank = h.blank ∙ sym (other_place es w q [] (other_bytes [] w (λ s. some (sym s))));
+}
+  where
+    w : List ℕ
+    w = word_at ws i
+
+    here : slice_get ps i ≡ Some (place_in es w)
+    here = noted_here ws es ps e i some h
+
+    within : i < length ps
+    within = slice_get_within ps i (place_in es w) here
+
+pub noted_there : (ws : List (List ℕ)) (es : List Entry) (ps : List (Option ℕ)) (e : Option ℕ) (i : ℕ) (d : Option ℕ) → (word_at ws i ≡ [] → ⊥)
+    → AreNoted ws es ps e → get_or ps i d ≡ place_in es (word_at ws i)
+noted_there ws es ps e i d some h = get_or_from_slice_get ps i (place_in es (word_at ws i)) d (noted_here ws es ps e i some h)
+
+pub none_noted : (ws : List (List ℕ)) (n : ℕ) → n ≡ length ws → AreNoted ws [] (replicate n None) None
+none_noted ws n long = record {
+  long = replicate_long n ∙ long;
+  each = λ k l. replicated n k (omega (arith, l, long)) ∙ ap Some (sym (nothing (word_at ws k)));
+  blank = refl;
+}
+  where
+    no_place : Option ℕ
+    no_place = None
+
+    replicate_long : (n : ℕ) → length (replicate n no_place) ≡ n
+    replicate_long zero = refl
+    replicate_long (suc n) = ap suc (replicate_long n)
+
+    replicated : (n k : ℕ) → k < n → slice_get (replicate n no_place) k ≡ Some None
+    replicated zero k l = absurd (omega arith)
+    replicated (suc n) zero l = refl
+    replicated (suc n) (suc k) l = replicated n k (omega arith)
+
+    nothing : (v : List ℕ) → place_noted [] v ≡ None
+    nothing [] = refl
+    nothing (c ∷ cs) = refl
+
+pub places_found : (ws : List (List ℕ)) (ns : List NetTree) (es : List Entry) (ps : List (Option ℕ)) (e : Option ℕ) → Finds ns es → AreNoted ws es ps e
+    → ArePlaces ws ns ps
+places_found ws ns es ps e finds h k p there =
+    by (word_at ws k) (let s : Some (place_noted es (word_at ws k)) ≡ Some (Some p) = sym
+    (h.each k (omega (arith, slice_get_within ps k (Some p) there, h.long))) ∙ there in cc)
+  where
+    by : (v : List ℕ) → place_noted es v ≡ Some p → place_named ns v ≡ Some p
+    by [] s = absurd (let t : None ≡ Some p = s in cc)
+    by (c ∷ cs) s = sym (finds (c ∷ cs)) ∙ s
 
 -- the nets from one on, where the first is looked at
 pub net_there : (ws : List (List ℕ)) (vs : List VNet) (i : ℕ) (d : VNet) → i < length vs

@@ -8,7 +8,7 @@ use Rattle.ae_vread.specs.View.{word_at}
 use Rattle.ae_judge.specs.Places.{Entry, place_in, place_named, with_place}
 use Rattle.ae_judge.specs.Seen.{AreMarked, entries_of}
 use Rattle.ae_judge.proofs.Members.{bytes_same, other_bytes, same_bytes}
-use Rattle.ae_judge.proofs.PlaceLemmas.{has_with, place_same, place_within}
+use Rattle.ae_judge.proofs.PlaceLemmas.{has_with, place_same, place_within, set_long, set_other, set_same}
 
 replicated : (k p : ℕ) → p < k → slice_get (replicate k false) p ≡ Some false
 replicated zero p l = absurd (omega arith)
@@ -24,23 +24,6 @@ none_marked ns = record {
   long = replicate_long (length ns);
   each = λ n p e. replicated (length ns) p (subst (λ o. IfSome o (λ q. q < length ns)) e (place_within ns n));
 }
-
-set_long : (bs : List Bool) (p : ℕ) (b : Bool) → length (slice_set bs p b) ≡ length bs
-set_long [] p b = refl
-set_long (x ∷ bs) zero b = refl
-set_long (x ∷ bs) (suc p) b = ap suc (set_long bs p b)
-
-set_same : (bs : List Bool) (p : ℕ) (b : Bool) → p < length bs → slice_get (slice_set bs p b) p ≡ Some b
-set_same [] p b l = absurd (omega arith)
-set_same (x ∷ bs) zero b l = refl
-set_same (x ∷ bs) (suc p) b l = set_same bs p b (omega arith)
-
-set_other : (bs : List Bool) (p q : ℕ) (b : Bool) → (p ≡ q → ⊥) → slice_get (slice_set bs p b) q ≡ slice_get bs q
-set_other [] p q b other = refl
-set_other (x ∷ bs) zero zero b other = absurd (other refl)
-set_other (x ∷ bs) zero (suc q) b other = refl
-set_other (x ∷ bs) (suc p) zero b other = refl
-set_other (x ∷ bs) (suc p) (suc q) b other = set_other bs p q b (λ e. other (ap suc e))
 
 -- one name more, which was not seen
 pub entries_more : (ws : List (List ℕ)) (ks : List ℕ) (k : ℕ) → is_some (place_in (entries_of ws ks) (word_at ws k)) ≡ false

@@ -8,3 +8,4 @@ pub mod Shape
 pub mod Regular
 pub mod Judging
 pub mod Table
+pub mod Symbols

@@ -1,5 +1,5 @@
 -- Names with places, and the places of a module's nets.
-use Rattle.std.specs.Prelude.{ℕ, suc, ◌≡◌, List, [], ◌∷◌, ◌++◌, Option, Some, None, is_some, if◌then◌else◌, bytes_eq, map, slice_get, option_map}
+use Rattle.std.specs.Prelude.{ℕ, suc, ◌≡◌, ◌<◌, length, List, [], ◌∷◌, ◌++◌, Option, Some, None, is_some, if◌then◌else◌, bytes_eq, map, slice_get, option_map}
 use Rattle.std.specs.List.{list_any}
 use Rattle.std.specs.Borrow.{Bor}
 use Rattle.ae_vread.specs.ModuleTree.{NetTree}
@@ -35,9 +35,16 @@ place_named (x ∷ xs) n = if bytes_eq x.name n then Some 0 else option_map suc 
 abbrev pub Finds : List NetTree → List Entry → Type 0
 Finds ns es = (n : List ℕ) → place_in es n ≡ place_named ns n
 
--- by the numbers of names, the places of their declarations, as far as they are noted
-abbrev pub AreNoted : List (List ℕ) → List Entry → List (Option ℕ) → Type 0
-AreNoted ws es ps = (k p : ℕ) → slice_get ps k ≡ Some (Some p) → place_in es (word_at ws k) ≡ Some p
+-- what is noted of a name: the place of its entry; nothing of the empty one
+abbrev pub place_noted : List Entry → List ℕ → Option ℕ
+place_noted es [] = None
+place_noted es (c ∷ cs) = place_in es (c ∷ cs)
+
+-- the places of the entries, by the numbers of their names, and that of the empty name
+pub record AreNoted (ws : List (List ℕ)) (es : List Entry) (ps : List (Option ℕ)) (empty : Option ℕ) : Type 0 where
+  pub long : length ps ≡ length ws
+  pub each : (k : ℕ) → k < length ws → slice_get ps k ≡ Some (place_noted es (word_at ws k))
+  pub blank : empty ≡ place_in es []
 
 abbrev pub ArePlaces : List (List ℕ) → List NetTree → List (Option ℕ) → Type 0
 ArePlaces ws ns ps = (k p : ℕ) → slice_get ps k ≡ Some (Some p) → place_named ns (word_at ws k) ≡ Some p

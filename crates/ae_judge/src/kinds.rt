@@ -1,52 +1,59 @@
 // Whether names are used as their kinds allow.
 
-ghost use Rattle.std.specs.Prelude.{ℕ, List, ◌≡◌, ◌<◌, ◌^◌, IfOk, None, length, map, option_map};
+ghost use Rattle.std.specs.Prelude.{◌≡◌, ◌<◌, ◌^◌, IfOk, None, false, length, map, option_map};
 ghost use Rattle.std.specs.List.{list_any};
 ghost use Rattle.ae_vread.specs.Roots.{numbered, numbered_stmt};
 ghost use Rattle.ae_vread.specs.View.{drive_tree, expr_tree, item_tree, stmt_tree, word_at};
 ghost use Rattle.ae_judge.specs.Names.{first_clock, clock_or, is_named};
+ghost use Rattle.ae_judge.specs.Symbols.{any_misread, is_misread, is_number};
 ghost use Rattle.ae_judge.specs.Judging.{first_from, misused_in, misuses};
-ghost use Rattle.ae_judge.specs.Faults.{is_place, is_misused, is_misused_in_stmt, is_misused_in_drive};
+ghost use Rattle.ae_judge.specs.Faults.{is_misused, is_misused_in_stmt, is_misused_in_drive};
 
 use crate::names::{Names, is_input_kind};
 use crate::reads::item_reads;
-use ae_vread::{Drive, Expr, Root, Stmt, StmtRoot, VItem};
+use ae_vread::{Drive, Expr, Stmt, StmtRoot, Symbol, VItem};
 use std::alloc::{AllocError, Global};
 
-fn is_place(index: Expr<'_>) -> bool
-    ensures { (ws : List (List ℕ)) → result ≡ is_place (expr_tree ws (numbered index.entry)) }
+/// Whether a symbol misuses the name that it reads; `placed` tells whether a decimal number stands right before it.
+fn is_misread(names: &Names<'_>, placed: bool, symbol: Symbol) -> bool
+    ensures { result ≡ is_misread names.now.nets names.now.words placed symbol }
 {
-    matches!(index.root(), Root::Place(_))
+    match symbol {
+        Symbol::Name(name) => names.is_memory(name),
+        Symbol::Part(name) => names.is_memory(name) || !names.is_ranged(name),
+        Symbol::Index(name) => !names.is_memory(name) && !(names.is_ranged(name) && placed),
+        Symbol::Number(_) | Symbol::Const { .. } | Symbol::Unary(_) | Symbol::Binary(_, _) => false,
+        Symbol::Choose(_, _) | Symbol::One | Symbol::More(_) => false,
+        Symbol::Set(_) | Symbol::Put(_, _) | Symbol::When(_) | Symbol::Either(_, _) => false,
+        Symbol::End | Symbol::Then(_) => false,
+    }
+}
+
+fn any_misread(names: &Names<'_>, symbols: &[Symbol]) -> bool
+    ensures { result ≡ any_misread names.now.nets names.now.words false symbols.now }
+{
+    let mut placed = false;
+    'symbol: for symbol in symbols {
+        if is_misread(names, placed, *symbol) {
+            return true;
+        }
+        placed = is_number(*symbol);
+    }
+    false
+}
+
+fn is_number(symbol: Symbol) -> bool
+    ensures { result ≡ is_number symbol }
+{
+    matches!(symbol, Symbol::Number(_))
 }
 
 /// Whether in the expression a memory stands without an index or is cut, or a name without a range is, or an index of
 /// what is no memory is no decimal number.
-#[cycle(misused)]
-pub fn is_misused(names: &Names<'_>, whole: Expr<'_>) -> bool
-    ensures { result ≡ is_misused names.now.nets (expr_tree names.now.words (numbered whole.entry)) }
+pub fn is_misused(names: &Names<'_>, value: Expr<'_>) -> bool
+    ensures { result ≡ is_misused names.now.nets (expr_tree names.now.words (numbered value.entry)) }
 {
-    let mut value = whole;
-    'part: loop {
-        match value.root() {
-            Root::Name(name) => return names.is_memory(name),
-            Root::Const { .. } | Root::Place(_) => return false,
-            Root::Part { name, .. } => return names.is_memory(name) || !names.is_ranged(name),
-            Root::Index { name, at } => return is_misused(names, at)
-                || (!names.is_memory(name) && !(names.is_ranged(name) && is_place(at))),
-            Root::Unary(_, a) => value = a,
-            Root::Binary(_, a, b) => return is_misused(names, a) || is_misused(names, b),
-            Root::Choose(test, a, b) => return is_misused(names, test)
-                || is_misused(names, a)
-                || is_misused(names, b),
-            Root::One(a) => value = a,
-            Root::More(a, rest) => {
-                if is_misused(names, a) {
-                    return true;
-                }
-                value = rest;
-            }
-        }
-    }
+    any_misread(names, value.symbols())
 }
 
 /// Whether in the statement a name is, or one that is assigned without an index is no register, or with one no memory.
@@ -190,8 +197,13 @@ fn misuses(
     if is_misused_in_item(names, clock, item) {
         return Ok(true);
     }
-    let reads = item_reads(alloc, item)?;
-    Ok(any_named(names, &reads, clock))
+    match clock {
+        None => Ok(false),
+        Some(_) => {
+            let reads = item_reads(alloc, item)?;
+            Ok(any_named(names, &reads, clock))
+        }
+    }
 }
 
 /// The number of the first item that does.

@@ -1,15 +1,15 @@
 // The declarations of names.
 
-ghost use Rattle.std.specs.Prelude.{◌≡◌, ◌<◌, ◌^◌, IfOk, IfSome, Some, None, if◌then◌else◌, [], length, map, option_and_then, option_map, replicate, slice_get, slice_set};
+ghost use Rattle.std.specs.Prelude.{List, ◌≡◌, ◌<◌, ◌^◌, IfOk, IfSome, Some, None, bytes_eq, if◌then◌else◌, is_some, [], length, map, option_and_then, option_map, replicate, slice_get};
+ghost use Rattle.std.specs.List.{IsDistinct};
 ghost use Rattle.std.specs.Option.{option_or};
 ghost use Rattle.ae_vread.specs.View.{net_tree, word_at};
 ghost use Rattle.ae_judge.specs.Names.{net_named, is_input_name, is_wire_name, is_register_name, is_memory_name, is_ranged, is_one_bit_input, depth_of, is_input_kind, is_wire_kind, is_register_kind, is_memory_kind, depth_of_kind};
 ghost use Rattle.ae_judge.specs.Table.{table_of};
-ghost use Rattle.ae_judge.specs.Places.{place_named};
+ghost use Rattle.ae_judge.specs.Places.{AreNoted, Entry, place_in, place_named, with_place};
 ghost use Rattle.ae_judge.specs.Judging.{first_again};
 ghost use Rattle.ae_judge.specs.Widths.{declared_width};
 
-use crate::places::Places;
 use ae_keyed::Keyed;
 use ae_vread::{NetKind, VNet, Words};
 use std::alloc::{AllocError, Global};
@@ -22,8 +22,6 @@ pub struct Names<'m> {
     nets: &'m [VNet],
     /// The place of the first declaration of each name, by its number.
     places: Vec<Option<u32>>,
-    /// How names are hashed.
-    keyed: Keyed,
     /// The item of the first net whose name an earlier one has.
     again: Option<u32>,
 }
@@ -52,15 +50,6 @@ fn noted(again: Option<u32>, there: bool, item: u32) -> Option<u32>
     }
 }
 
-/// What names are hashed behind: all of them.
-fn keyed_by(words: &Words<'_>, nets: &[VNet]) -> Keyed {
-    let mut keyed = Keyed::behind(&[]);
-    for net in nets {
-        keyed.pass(words.name(net.name).as_bytes());
-    }
-    keyed
-}
-
 /// No places, for so many names.
 fn no_places(alloc: Global, count: usize) -> Result<Vec<Option<u32>>, AllocError>
     ensures { IfOk result (λ places. places.items ≡ replicate count None) }
@@ -69,21 +58,43 @@ fn no_places(alloc: Global, count: usize) -> Result<Vec<Option<u32>>, AllocError
     Ok(places)
 }
 
-/// Notes the place of a name by its number, unless the name was there before.
-fn note(places: &mut Vec<Option<u32>>, there: bool, number: u32, place: usize)
-    requires few { place < 2 ^ 32 }
-    ensures { places.new.items ≡ (if there then places.old.items else slice_set places.old.items number (Some place)) }
+/// Notes a place, unless one was noted, which it answers.
+fn put(noted: &mut Option<u32>, place: u32) -> bool
+    ensures there { result ≡ is_some noted.old }
+    ensures put { noted.new ≡ option_or noted.old (Some place) }
 {
-    if there {
-        return;
-    }
-    if let Some(noted) = places.get_mut(number as usize) {
-        *noted = Some(place as u32);
+    match *noted {
+        Some(_) => true,
+        None => {
+            *noted = Some(place);
+            false
+        }
     }
 }
 
+/// Notes the place of a name by its number, unless one was noted, which it answers; that of a name that is empty, as none of
+/// a text is, stands by itself.
+fn note(
+    words: &Words<'_>,
+    places: &mut Vec<Option<u32>>,
+    empty: &mut Option<u32>,
+    number: u32,
+    place: usize,
+) -> bool
+    requires few { place < 2 ^ 32 }
+    requires apart { IsDistinct bytes_eq words.now }
+    requires long { length places.old.items ≡ length words.now }
+    ensures there { (es : List Entry) → AreNoted words.now es places.old.items empty.old → result ≡ is_some (place_in es (word_at words.now number)) }
+    ensures notes { (es : List Entry) → AreNoted words.now es places.old.items empty.old → AreNoted words.now (with_place es (word_at words.now number) place) places.new.items empty.new }
+{
+    if words.name(number).is_empty() {
+        return put(empty, place as u32);
+    }
+    put(&mut places[number as usize], place as u32)
+}
+
 impl<'m> Names<'m> {
-    /// A table of these nets, in time linear in their names.
+    /// A table of these nets, in time linear in them.
     pub fn of(
         alloc: Global,
         words: &'m Words<'m>,
@@ -92,21 +103,19 @@ impl<'m> Names<'m> {
         requires few { length nets.now < 2 ^ 32 }
         ensures { IfOk result (λ t. t ≡ table_of words.now nets.now) }
     {
-        let keyed = keyed_by(words, nets);
-        let mut found = Places::with_room(alloc, keyed, nets.len())?;
+        words.apart();
         let mut places = no_places(alloc, words.len())?;
+        let mut empty = None;
         let mut again = None;
         'net: for place in 0..nets.len() {
             let net = nets[place];
-            let there = found.put(words.name(net.name), place)?;
-            note(&mut places, there, net.name, place);
+            let there = note(words, &mut places, &mut empty, net.name, place);
             again = noted(again, there, net.item);
         }
         Ok(Names {
             words,
             nets,
             places,
-            keyed,
             again,
         })
     }
@@ -123,9 +132,9 @@ impl<'m> Names<'m> {
         self.nets.len()
     }
 
-    /// How names are hashed: behind all of these.
+    /// How names are hashed.
     pub fn keyed(&self) -> Keyed {
-        self.keyed
+        self.words.keyed()
     }
 
     /// The item of the first net whose name an earlier one has.

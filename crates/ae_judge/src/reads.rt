@@ -144,15 +144,6 @@ pub fn push_item_targets(item: &VItem, into: &mut Vec<u32>) -> Result<(), AllocE
     }
 }
 
-/// The names that an expression reads.
-pub fn names_in(alloc: Global, value: Expr<'_>) -> Result<Vec<u32>, AllocError>
-    ensures { (ws : List (List ℕ)) → IfOk result (λ v. map (word_at ws) v.items ≡ names_in (expr_tree ws (numbered value.entry))) }
-{
-    let mut names = Vec::new(alloc);
-    push_names(value, &mut names)?;
-    Ok(names)
-}
-
 /// The names that an item's expressions read.
 pub fn item_reads(alloc: Global, item: &VItem) -> Result<Vec<u32>, AllocError>
     ensures { (ws : List (List ℕ)) → IfOk result (λ v. map (word_at ws) v.items ≡ item_reads (item_tree ws item.now)) }

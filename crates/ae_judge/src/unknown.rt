@@ -5,12 +5,13 @@ ghost use Rattle.std.specs.List.{list_any};
 ghost use Rattle.ae_vread.specs.View.{drive_tree, expr_tree, item_tree, word_at};
 ghost use Rattle.ae_vread.specs.Roots.{numbered};
 ghost use Rattle.ae_judge.specs.Names.{names_in, item_reads, item_targets};
+ghost use Rattle.ae_judge.specs.Symbols.{words_read};
 ghost use Rattle.ae_judge.specs.Judging.{item_clock, first_from, is_declared_before, is_unknown, is_late, drives_unknown, uses_unknown};
 
 use crate::names::Names;
 use crate::places::Places;
-use crate::reads::{names_in, push_item_reads, push_item_targets, push_name};
-use ae_vread::{Drive, Expr, VItem};
+use crate::reads::{push_item_reads, push_item_targets, push_name};
+use ae_vread::{Drive, Expr, Symbol, VItem};
 use std::alloc::{AllocError, Global};
 
 fn is_declared_before(names: &Names<'_>, number: u32, name: u32) -> bool
@@ -40,34 +41,54 @@ fn any_unknown(names: &Names<'_>, number: u32, given: &Places<'_>, used: &[u32])
     false
 }
 
-/// Whether the value uses a name that is neither declared before the item nor given.
-fn value_unknown(
-    alloc: Global,
-    names: &Names<'_>,
-    number: u32,
-    given: &Places<'_>,
-    value: Expr<'_>,
-) -> Result<bool, AllocError>
-    ensures { IfOk result (λ b. b ≡ list_any (is_unknown names.now.nets number given.now) (names_in (expr_tree names.now.words (numbered value.entry)))) }
+/// Whether a symbol reads a name that is neither declared before the item nor given.
+fn symbols_unknown(names: &Names<'_>, number: u32, given: &Places<'_>, symbols: &[Symbol]) -> bool
+    ensures { result ≡ list_any (is_unknown names.now.nets number given.now) (words_read names.now.words symbols.now) }
 {
-    let used = names_in(alloc, value)?;
-    Ok(any_unknown(names, number, given, &used))
+    'symbol: for symbol in symbols {
+        if let Some(name) = symbol.read() {
+            if is_unknown(names, number, given, name) {
+                return true;
+            }
+        }
+    }
+    false
+}
+
+/// Whether the value uses a name that is neither declared before the item nor given.
+fn value_unknown(names: &Names<'_>, number: u32, given: &Places<'_>, value: Expr<'_>) -> bool
+    ensures { result ≡ list_any (is_unknown names.now.nets number given.now) (names_in (expr_tree names.now.words (numbered value.entry))) }
+{
+    symbols_unknown(names, number, given, value.symbols())
 }
 
 /// Whether a value of a declaration uses a name that is not declared before the item.
-fn any_late(
-    alloc: Global,
-    names: &Names<'_>,
-    number: u32,
-    drives: &[Drive],
-) -> Result<bool, AllocError>
-    ensures { IfOk result (λ b. b ≡ list_any (is_late names.now.nets number) (map (drive_tree names.now.words) drives.now)) }
+fn any_late(alloc: Global, names: &Names<'_>, number: u32, drives: &[Drive]) -> bool
+    ensures { result ≡ list_any (is_late names.now.nets number) (map (drive_tree names.now.words) drives.now) }
 {
     let none = Places::new(alloc, names.keyed());
     'drive: for drive in drives {
-        if value_unknown(alloc, names, number, &none, drive.value.expr())? {
+        if value_unknown(names, number, &none, drive.value.expr()) {
+            return true;
+        }
+    }
+    false
+}
+
+/// Whether a value uses a name that is neither declared before the item nor given, or given by a drive before its own.
+fn any_ungiven<'m>(
+    names: &Names<'m>,
+    number: u32,
+    given: &mut Places<'m>,
+    drives: &[Drive],
+) -> Result<bool, AllocError>
+    ensures { IfOk result (λ b. b ≡ drives_unknown names.now.nets number given.old (map (drive_tree names.now.words) drives.now)) }
+{
+    'drive: for drive in drives {
+        if value_unknown(names, number, given, drive.value.expr()) {
             return Ok(true);
         }
+        given.put(names.word(drive.name), 0)?;
     }
     Ok(false)
 }
@@ -83,17 +104,11 @@ fn drives_unknown(
 ) -> Result<bool, AllocError>
     ensures { IfOk result (λ b. b ≡ drives_unknown names.now.nets number [] (map (drive_tree names.now.words) drives.now)) }
 {
-    if !any_late(alloc, names, number, drives)? {
+    if !any_late(alloc, names, number, drives) {
         return Ok(false);
     }
     let mut given = Places::with_room(alloc, names.keyed(), drives.len())?;
-    'drive: for drive in drives {
-        if value_unknown(alloc, names, number, &given, drive.value.expr())? {
-            return Ok(true);
-        }
-        given.put(names.word(drive.name), 0)?;
-    }
-    Ok(false)
+    any_ungiven(names, number, &mut given, drives)
 }
 
 /// The clock that an item names, the names that it drives, and those that it reads.

@@ -3,9 +3,8 @@
 
 use std::hash::{BuildHasher, DefaultHasher, Hasher};
 
-/// Begins the hash of each key where that of other bytes ended (SipHash-1-3, of 256 bits of state): of all keys of the table, or
-/// of the text that they stand in. So whoever chooses the keys changes all hashes with each change of one key, and cannot choose
-/// keys one by one that fall into one bucket.
+/// Begins the hash of each key where that of the text that they stand in ended (SipHash-1-3, of 256 bits of state). So whoever
+/// chooses the keys changes all hashes with each change of one key, and cannot choose keys one by one that fall into one bucket.
 #[derive(Clone, Copy)]
 pub struct Keyed {
     begun: DefaultHasher,
@@ -17,11 +16,6 @@ impl Keyed {
         let mut begun = DefaultHasher::new();
         begun.write(bytes);
         Keyed { begun }
-    }
-
-    /// Goes on behind these bytes.
-    pub fn pass(&mut self, bytes: &[u8]) {
-        self.begun.write(bytes);
     }
 }
 

@@ -1,7 +1,7 @@
 -- Names that are put behind others.
 use Rattle.std.proofs.Common.{◌≡◌, ℕ, ◌+◌, not, List, [], ◌∷◌, ◌++◌, Bool, true, false, Some, None, refl, sym, ap, ◌∙◌, Bor, append-nil}
 use Rattle.std.specs.Prelude.{slice_get, option_map, bytes_eq, position, nat_lt, if◌then◌else◌}
-use Rattle.std.specs.List.{list_any, prefix_len}
+use Rattle.std.specs.List.{AllByRecursion, IsDistinct, list_any, prefix_len}
 use Rattle.std.proofs.lemmas.Option.{slice_get-map}
 use Rattle.std.proofs.lemmas.List.{length-map, map-append}
 use Rattle.std.proofs.lemmas.Slice.Eq.{bytes_eq-Decides}
@@ -29,3 +29,14 @@ pub position_words : (test : List ℕ → Bool) (ks : List (Bor (List ℕ))) →
 position_words test ks =
     let same = prefix_words (λ w. not (test w)) ks in
     λ i. if nat_lt (same i) (length-map ks (λ (k : Bor (List ℕ)). k.now) i) then Some (same i) else None
+
+all_words : (w : List ℕ) (ks : List (Bor (List ℕ))) → AllByRecursion (λ (k : Bor (List ℕ)). bytes_eq w k.now ≡ false) ks
+    → AllByRecursion (λ v. bytes_eq w v ≡ false) (words_of ks)
+all_words w [] h = tt
+all_words w (k ∷ ks) h = (h.0, all_words w ks h.1)
+
+-- names of which no two are equal in the table
+pub distinct_words : (ks : List (Bor (List ℕ))) → IsDistinct (λ (x y : Bor (List ℕ)). bytes_eq x.now y.now) ks → IsDistinct bytes_eq (words_of ks)
+unfolding IsDistinct
+distinct_words [] h = tt
+distinct_words (k ∷ ks) h = (all_words k.now ks h.0, distinct_words ks h.1)

@@ -1,5 +1,5 @@
 -- Postfix code: the symbols of an expression or a statement, and what symbols stand for.
-use Rattle.std.specs.Prelude.{◌≡◌, ℕ, ◌+◌, ◌*◌, ◌/◌, ◌%◌, ◌^◌, List, [], ◌∷◌, ◌++◌, length}
+use Rattle.std.specs.Prelude.{◌≡◌, ℕ, ◌+◌, ◌*◌, ◌/◌, ◌%◌, ◌^◌, List, [], ◌∷◌, ◌++◌, length, Option, Some, None}
 use Rattle.ae_vread.specs.Numbered as n
 use Rattle.ae_vread.specs.Numbered.{NumberedExpr, NumberedStmt, Piece, expr, stmt}
 use Rattle.ae_vread.specs.declared.symbols.Symbol.{Symbol}
@@ -34,6 +34,25 @@ coded_stmt (n.block_more first rest) =
 abbrev pub coded_piece : Piece → List Symbol
 coded_piece (expr t) = coded t
 coded_piece (stmt s) = coded_stmt s
+
+-- the name that a symbol reads
+abbrev pub name_read : Symbol → Option ℕ
+name_read (Name k) = Some k
+name_read (Number p) = None
+name_read (Const size fits high low) = None
+name_read (Part k) = Some k
+name_read (Index k) = Some k
+name_read (Unary op) = None
+name_read (Binary op size) = None
+name_read (Choose size_a size_b) = None
+name_read One = None
+name_read (More size) = None
+name_read (Set k) = None
+name_read (Put k size) = None
+name_read (When size) = None
+name_read (Either size_a size_b) = None
+name_read End = None
+name_read (Then size) = None
 
 -- the number that is a bound of a part
 abbrev pub number : NumberedExpr → ℕ

@@ -17,5 +17,5 @@ mod words;
 pub use ae_vtoken::{BadToken, Key, Sign, Token};
 pub use module::{BinOp, Drive, NetKind, UnOp, VItem, VModule, VNet};
 pub use reader::{VFault, read};
-pub use symbols::{Code, Expr, Root, Stmt, StmtCode, StmtRoot};
+pub use symbols::{Code, Expr, Root, Stmt, StmtCode, StmtRoot, Symbol};
 pub use words::Words;

@@ -2,7 +2,7 @@
 
 ghost use Rattle.std.specs.Prelude.{ℕ, List, ◌≡◌, ◌<◌, ◌+◌, ◌*◌, ◌^◌};
 ghost use Rattle.ae_vread.specs.Numbered.{NumberedExpr, NumberedStmt};
-ghost use Rattle.ae_vread.specs.Postfix.{AreHalves, AreThirds, HasCode, HasHalves, HasRoot, HasStmtCode, HasStmtRoot, HasThirds, IsBehind, IsStmtBehind, coded, coded_stmt};
+ghost use Rattle.ae_vread.specs.Postfix.{AreHalves, AreThirds, HasCode, HasHalves, HasRoot, HasStmtCode, HasStmtRoot, HasThirds, IsBehind, IsStmtBehind, coded, coded_stmt, name_read};
 ghost use Rattle.ae_vread.specs.declared.symbols.Symbol.{Symbol};
 ghost use Rattle.ae_vread.specs.declared.symbols.Symbol.TheVariants.{Number};
 ghost use Rattle.ae_vread.specs.Roots.{code_expr, code_stmt, numbered, numbered_stmt, root_expr, root_stmt};
@@ -202,7 +202,30 @@ impl StmtCode {
     }
 }
 
+impl Symbol {
+    /// The name that it reads, by its number.
+    pub fn read(self) -> Option<u32>
+        ensures { result ≡ name_read self }
+    {
+        match self {
+            Symbol::Name(k) | Symbol::Part(k) | Symbol::Index(k) => Some(k),
+            Symbol::Number(_) | Symbol::Const { .. } | Symbol::Unary(_) | Symbol::Binary(_, _) =>
+                None,
+            Symbol::Choose(_, _) | Symbol::One | Symbol::More(_) => None,
+            Symbol::Set(_) | Symbol::Put(_, _) | Symbol::When(_) | Symbol::Either(_, _) => None,
+            Symbol::End | Symbol::Then(_) => None,
+        }
+    }
+}
+
 impl<'m> Expr<'m> {
+    /// Its symbols, each operator behind its operands.
+    pub fn symbols(self) -> &'m [Symbol]
+        ensures { result.now ≡ coded (numbered self.entry) }
+    {
+        self.symbols
+    }
+
     /// Its outermost part.
     #[inline(always)]
     pub fn root(self) -> Root<'m>

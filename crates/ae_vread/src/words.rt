@@ -1,6 +1,7 @@
 // The different names of a text, by numbers.
 
 ghost use Rattle.std.specs.Prelude.{◌≡◌, ◌<◌, ◌≤◌, ◌+◌, ◌^◌, [], bytes_eq, length, position, slice_get, Some, IfOk};
+ghost use Rattle.std.specs.List.{IsDistinct};
 ghost use Rattle.ae_vread.specs.View.{word_at};
 ghost use Rattle.ae_vread.specs.Words.{Extends};
 
@@ -43,6 +44,18 @@ impl<'a> Words<'a> {
     {
         let (number, _) = self.numbers.insert_full(word)?;
         Ok(number as u32)
+    }
+
+    /// No two of them are equal.
+    pub fn apart(&self)
+        ensures { IsDistinct bytes_eq self.now }
+    {
+        let _len = self.numbers.len();
+    }
+
+    /// How they are hashed.
+    pub fn keyed(&self) -> Keyed {
+        *self.numbers.hasher()
     }
 
     /// How many names there are.
