@@ -10,6 +10,7 @@ ghost use Rattle.ae_rewrite.specs.Interface.{main_of};
 ghost use Rattle.ae_delay.specs.Costs.{too_large};
 ghost use Rattle.ae_delay.specs.Timings.{AreTimes};
 ghost use Rattle.ae_lower.specs.Circuits.{last_of};
+ghost use Rattle.ae_stalled.specs.Laws.{stall_limit};
 ghost use Rattle.ae_compile.specs.Costing.{AreCosts, IsLargeAt, IsScheduled, IsCosted, IsCostFault, IsKnown, costs_over, load_limit};
 ghost use Rattle.ae_compile.specs.Passes.{IsCostedProgram};
 
@@ -197,6 +198,17 @@ pub fn cost(
         schedule,
         costs,
     })
+}
+
+/// The same of a circuit that gets an enable: its load is at most `STALL_LIMIT`.
+pub fn cost_stalled(alloc: Global, part: &[u8], slowdown: Slowdown) -> Result<Costed, CompileFault>
+    requires part { length part.now < 4294967295 }
+    ensures costed { IfOk result (λ c. IsCosted stall_limit part.now slowdown (program_tree c.program) (st_func_trees c.schedule)) }
+    ensures slowdown { IfOk result (λ c. c.slowdown ≡ slowdown) }
+    ensures known { IfOk result (λ c. IsKnown stall_limit (program_tree c.program) c.slowdown (st_func_trees c.schedule) c.costs) }
+    ensures refused { IfErr result (λ f. IsCostFault stall_limit part.now slowdown f) }
+{
+    cost(alloc, part, slowdown, STALL_LIMIT)
 }
 
 // The program function, which is the last.

@@ -16,7 +16,7 @@ mod texts;
 mod typing;
 
 pub use circuits::{Compiled, compile};
-pub use costing::{Costed, LOAD_LIMIT, STALL_LIMIT, cost};
+pub use costing::{Costed, LOAD_LIMIT, STALL_LIMIT, cost, cost_stalled};
 pub use costs::Costs;
 pub use faults::{CompileFault, OutOfMemory};
 pub use playing::play;

@@ -5,7 +5,7 @@ ghost use Rattle.ae_jobs.specs.Schedules.{IsStallReply};
 
 use crate::reply::{Reply, refused_program};
 use crate::status::Status;
-use ae_compile::{OutOfMemory, STALL_LIMIT, compile_stalled, cost, stalled_text};
+use ae_compile::{OutOfMemory, compile_stalled, cost_stalled, stalled_text};
 use ae_sttype::Slowdown;
 use std::alloc::Global;
 
@@ -14,7 +14,7 @@ pub fn stall(alloc: Global, part: &[u8], slowdown: Slowdown) -> Result<Reply, Ou
     requires { length part.now < 4294967295 }
     ensures { IfOk result (λ reply. IsStallReply part.now slowdown reply.status (string_bytes reply.text)) }
 {
-    match cost(alloc, part, slowdown, STALL_LIMIT) {
+    match cost_stalled(alloc, part, slowdown) {
         Ok(costed) => {
             let compiled = compile_stalled(alloc, costed)?;
             let text = stalled_text(alloc, &compiled)?;
