@@ -1,6 +1,6 @@
 // The circuit of a program with an enable, and what is told of it.
 
-ghost use Rattle.std.specs.Prelude.{◌≡◌, ◌<◌, ◌≤◌, ℕ, IfOk, Some, map, slice_get};
+ghost use Rattle.std.specs.Prelude.{◌≡◌, ◌<◌, ◌≤◌, ℕ, IfOk, Some, map, slice_get, []};
 ghost use Rattle.ae_seq.specs.ProgramTree.{program_tree};
 ghost use Rattle.ae_rewrite.specs.StProgramTree.{st_func_trees};
 ghost use Rattle.ae_stall.specs.Images.{renumbered};
@@ -95,6 +95,19 @@ fn moved_marks(alloc: Global, marks: &[u32]) -> Result<Vec<u32>, AllocError>
     Ok(behind)
 }
 
+// What is told of the circuit with an enable, the circuit, and its notes.
+fn stalled_parts(alloc: Global, costed: &Costed) -> Result<(Report, Netlist, Vec<Note>), AllocError>
+    requires { (main_costs (program_tree costed.now.program) (st_func_trees costed.now.schedule)).load ≤ stall_limit }
+    ensures { IfOk result (λ x. IsStalledProgram (record { costed = costed.now; report = x.0; netlist = x.1; notes = x.2.items; sections = [] })) }
+{
+    let report = report(alloc, costed, true)?;
+    let lowered = circuit(alloc, costed)?;
+    let netlist = stall(alloc, &lowered.netlist)?;
+    let marks = moved_marks(alloc, &lowered.marks)?;
+    let notes = notes(alloc, costed, &marks)?;
+    Ok((report, netlist, notes))
+}
+
 /// The circuit of a costed program, within the limit of load of these, with an enable: in the clocks in which the enable is 1 it
 /// does what the circuit does, and in the others its registers and memories stay as they are. The error comes only for
 /// want of memory.
@@ -103,11 +116,7 @@ pub fn compile_stalled(alloc: Global, costed: Costed) -> Result<Stalled, AllocEr
     ensures of { IfOk result (λ d. d.costed ≡ costed) }
     ensures stalled { IfOk result IsStalledProgram }
 {
-    let report = report(alloc, &costed, true)?;
-    let lowered = circuit(alloc, &costed)?;
-    let netlist = stall(alloc, &lowered.netlist)?;
-    let marks = moved_marks(alloc, &lowered.marks)?;
-    let notes = notes(alloc, &costed, &marks)?;
+    let (report, netlist, notes) = stalled_parts(alloc, &costed)?;
     Ok(Stalled {
         costed,
         report,
