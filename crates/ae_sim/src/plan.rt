@@ -111,7 +111,7 @@ fn mask_of(width: u32) -> u64
     requires high { width ≤ 64 }
     ensures { result ≡ 2 ^ width - 1 }
 {
-    ((1u128 << width) - 1) as u64
+    u64::MAX >> (64 - width)
 }
 
 /// The step of one cell, by how many inputs and registers stand before it, and how many memories before each net.

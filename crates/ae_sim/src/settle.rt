@@ -29,13 +29,7 @@ fn word_of(
         Step::Taken(k) => inputs[k as usize],
         Step::Held(k) => registers[k as usize].held,
         Step::Seen { memory, at } => seen(&memories[memory as usize], words[at as usize]),
-        Step::Made { op, mask, a, b, c } => compute(
-            op,
-            mask,
-            words[a as usize],
-            words[b as usize],
-            words[c as usize],
-        ),
+        Step::Made { op, mask, a, b, c } => compute(op, mask, words, a, b, c),
     }
 }
 
