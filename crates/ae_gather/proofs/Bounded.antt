@@ -13,8 +13,8 @@ use Rattle.ae_moves.specs.declared.trip.Trip.{Trip}
 use Rattle.ae_moves.proofs.Held.{sum_more}
 use Rattle.ae_moves.proofs.Lists.{fold_ge, get_mapped}
 use Rattle.ae_gather.specs.Counts.{line_registers}
-use Rattle.ae_gather.specs.Held.{is_kept, kept_count, settled}
-use Rattle.ae_gather.specs.Plans.{IsIn}
+use Rattle.ae_columns.specs.Held.{is_kept, kept_count, settled}
+use Rattle.ae_columns.specs.Plans.{IsIn}
 use Rattle.ae_gather.proofs.Delays.{sum_le}
 use Rattle.ae_gather.proofs.Counting.{same_self}
 use Rattle.ae_gather.proofs.Hastened.{get_unmapped}

@@ -12,14 +12,14 @@ use Rattle.ae_moves.specs.declared.trip.Source.{Source}
 use Rattle.ae_moves.specs.declared.trip.Source.TheVariants.{Place, Fixed}
 use Rattle.ae_moves.specs.declared.trip.Trip.{Trip}
 use Rattle.ae_moves.specs.declared.trip.Choice.{Choice}
-use Rattle.ae_gather.specs.declared.trips.Counters.{Counters}
-use Rattle.ae_gather.specs.declared.trips.PhaseNet.{PhaseNet}
-use Rattle.ae_gather.specs.declared.trips.Step.{Step}
-use Rattle.ae_gather.specs.Early.{IsEarlyColumn, IsMade, counter_for, first_phase, is_early}
-use Rattle.ae_gather.specs.Plans.{AreUsed, choice_in, choice_of, choice_from, HasPlace, IsPlan}
-use Rattle.ae_gather.specs.Columns.{net_of, IsReady, AreReady}
-use Rattle.ae_gather.specs.Laws.{AreLines, AreColumns, AreFitting, FitsColumn}
-use Rattle.ae_gather.proofs.Choosing.{column_grows}
+use Rattle.ae_columns.specs.declared.steps.Counters.{Counters}
+use Rattle.ae_columns.specs.declared.steps.PhaseNet.{PhaseNet}
+use Rattle.ae_columns.specs.declared.steps.Step.{Step}
+use Rattle.ae_columns.specs.Early.{IsEarlyColumn, IsMade, counter_for, first_phase, is_early}
+use Rattle.ae_columns.specs.Plans.{AreUsed, choice_in, choice_of, choice_from, HasPlace, IsPlan}
+use Rattle.ae_columns.specs.Columns.{net_of, IsReady, AreReady}
+use Rattle.ae_columns.specs.Laws.{AreLines, AreColumns, AreFitting, FitsColumn}
+use Rattle.ae_columns.proofs.Choosing.{column_grows}
 use Rattle.ae_moves.proofs.Lists.{take_push}
 use Rattle.ae_clocked.proofs.Lining.{taps_grow}
 

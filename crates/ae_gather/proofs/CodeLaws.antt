@@ -14,15 +14,15 @@ use Rattle.ae_netlist.specs.declared.cell.SizedCell.{SizedCell}
 use Rattle.ae_netlist.specs.Circuit.{Circuit}
 use Rattle.ae_netlist.proofs.Gets.{get_push_cases}
 use Rattle.ae_ops.specs.Blocks.{stream_of, AreBundles, KeepsLaw}
-use Rattle.ae_gather.specs.Plans.{AreUsed, AreWithin}
-use Rattle.ae_gather.specs.Laws.{MakesTrips}
+use Rattle.ae_columns.specs.Plans.{AreUsed, AreWithin}
+use Rattle.ae_columns.specs.Laws.{MakesTrips}
 use Rattle.ae_gather.specs.Joins.{AreJoined}
 use Rattle.ae_gather.proofs.GatherLaw.{bundles_long, firsts_same, gather_law}
 use Rattle.ae_moves.specs.declared.trip.Trip.{Trip}
 use Rattle.ae_moves.specs.Rings.{mems_of, registers_of}
 use Rattle.ae_moves.specs.Trees.{trip_tree}
 use Rattle.ae_moves.specs.Origins.{AllInSize, IsMove, Move, move_latency, move_trips, width_at}
-use Rattle.ae_gather.specs.Counts.{Counted}
+use Rattle.ae_columns.specs.Counts.{Counted}
 use Rattle.ae_gather.specs.Gathers.{AreWidths, gather_part, move_registers, move_tests}
 use Rattle.ae_moves.proofs.Words.{columns_small, words_pos}
 use Rattle.ae_gather.proofs.Typed.{used, within}

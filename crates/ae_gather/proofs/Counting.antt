@@ -13,8 +13,8 @@ use Rattle.ae_moves.specs.declared.trip.Source.TheVariants.{Place, Fixed}
 use Rattle.ae_moves.specs.declared.trip.Choice.{Choice}
 use Rattle.ae_moves.specs.declared.trip.Choice.TheVariants.{Delayed, Constant}
 use Rattle.ae_moves.specs.declared.trip.Trip.{Trip}
-use Rattle.ae_gather.specs.declared.trips.Step.{Step}
-use Rattle.ae_gather.specs.Plans.{choice_from as code_choice, choice_of}
+use Rattle.ae_columns.specs.declared.steps.Step.{Step}
+use Rattle.ae_columns.specs.Plans.{choice_from as code_choice, choice_of}
 use Rattle.ae_moves.specs.Trees.{choice_tree, source_tree, trip_tree}
 use Rattle.ae_moves.proofs.Lists.{get_mapped}
 use Rattle.ae_gather.proofs.Planning.{get_set_cases}

@@ -1,11 +1,11 @@
 -- A gather that makes every trip keeps the law of blocks of its move.
-use Rattle.std.proofs.Common.{ℕ, zero, suc, ◌≡◌, ◌+◌, ◌-◌, ◌*◌, ◌/◌, ◌%◌, ◌<◌, ◌≤◌, ◌^◌, false, List, ◌∷◌, ◌++◌, [], length, map, sum_by, take, Some, slice_get, get_or, option_map, arith, refl, sym, ap, ◌∙◌, subst}
+use Rattle.std.proofs.Common.{ℕ, zero, suc, ◌≡◌, ◌+◌, ◌*◌, ◌/◌, ◌%◌, ◌<◌, ◌≤◌, ◌^◌, false, List, ◌∷◌, ◌++◌, [], length, map, sum_by, take, Some, slice_get, get_or, option_map, arith, refl, sym, ap, ◌∙◌, subst}
 use Rattle.std.proofs.Math.Nat.{add-mul}
 use Rattle.std.proofs.lemmas.List.{length-map}
 use Rattle.std.proofs.lemmas.List.Sums.{sum_by-cons}
 use Rattle.std.proofs.lemmas.Nat.{div-add-mod', div-mul-add, div_below, mod-mul-add, mod_below}
 use Rattle.std.proofs.lemmas.Option.{slice_get_within, slice_get-get_or, get_or_from_slice_get}
-use Rattle.ae_word.specs.AtomTree.{WordKind, word, atom_kinds, unsigned_word}
+use Rattle.ae_word.specs.AtomTree.{WordKind, atom_kinds, unsigned_word}
 use Rattle.ae_word.proofs.Ranges.{width_there}
 use Rattle.ae_word.proofs.Sizes.{length-atom_kinds}
 use Rattle.ae_seqtype.specs.SeqTree.{repeated}
@@ -28,8 +28,8 @@ use Rattle.ae_ops.specs.Blocks.{AllHold, AreBundles, KeepsLaw, stream_of, stream
 use Rattle.ae_moves.specs.declared.trip.Source.{Source}
 use Rattle.ae_moves.specs.declared.trip.Source.TheVariants.{Place, Fixed}
 use Rattle.ae_moves.specs.declared.trip.Trip.{Trip}
-use Rattle.ae_gather.specs.Columns.{net_of}
-use Rattle.ae_gather.specs.Laws.{AreFitting, FitsColumn, MakesTrips, sourced}
+use Rattle.ae_columns.specs.Columns.{net_of}
+use Rattle.ae_columns.specs.Laws.{AreFitting, FitsColumn, MakesTrips, sourced}
 use Rattle.ae_moves.specs.Trees.{source_tree, trip_tree}
 use Rattle.ae_moves.specs.Origins.{HasOrigin, IsMove, Move, move_latency, move_trips, width_at}
 use Rattle.ae_gather.specs.Gathers.{AreWidths, gather_part, origin_word}

@@ -11,9 +11,9 @@ use Rattle.ae_moves.specs.declared.trip.Source.TheVariants.{Place, Fixed}
 use Rattle.ae_moves.specs.declared.trip.Trip.{Trip}
 use Rattle.ae_moves.specs.Trees.{source_tree, trip_tree}
 use Rattle.ae_moves.proofs.Lists.{get_mapped}
-use Rattle.ae_gather.specs.Plans.{AreInOrder, AreUsed, AreWithin, IsIn}
-use Rattle.ae_gather.specs.Laws.{AreFitting, FitsColumn}
-use Rattle.ae_gather.specs.Early.{AreInTime, hastened, hastened_source, is_early}
+use Rattle.ae_columns.specs.Plans.{AreInOrder, AreUsed, AreWithin, IsIn}
+use Rattle.ae_columns.specs.Laws.{AreFitting, FitsColumn}
+use Rattle.ae_columns.specs.Early.{AreInTime, hastened, hastened_source, is_early}
 use Rattle.ae_gather.proofs.Counting.{same_only, same_self}
 
 -- ---- the same trips otherwise

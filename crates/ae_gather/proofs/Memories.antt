@@ -12,7 +12,7 @@ use Rattle.ae_moves.specs.declared.trip.Source.TheVariants.{Place, Fixed}
 use Rattle.ae_moves.specs.declared.trip.Trip.{Trip}
 use Rattle.ae_moves.proofs.Held.{sum_more}
 use Rattle.ae_sttype.specs.Moves.{IsReached as ReachesTree}
-use Rattle.ae_gather.specs.Plans.{AreWithin, IsIn, IsReached}
+use Rattle.ae_columns.specs.Plans.{AreWithin, IsIn, IsReached}
 
 pub rings_near : (a : ℕ) → a < 8 → rings a ≡ 0
 rings_near a l = let t : nat_lt a 8 ≡ true = search arith in rw t refl
@@ -35,13 +35,6 @@ sums_le f g (suc n) h =
     let last : f n ≤ g n = h n (omega arith) in
     let more : sum_by f (range_with_len 0 (n + 1)) ≤ sum_by g (range_with_len 0 (n + 1)) = omega (arith, sum_more f n, sum_more g n, rest, last) in
     subst (λ (k : ℕ). sum_by f (range_with_len 0 k) ≤ sum_by g (range_with_len 0 k)) (sym e) more
-
-pub sums_part : (f : ℕ → ℕ) (k j : ℕ) → sum_by f (range_with_len 0 k) ≤ sum_by f (range_with_len 0 (k + j))
-sums_part f k zero = let e : k + 0 ≡ k = omega arith in rw e (omega arith)
-sums_part f k (suc j) =
-    let e : k + suc j ≡ k + j + 1 = omega arith in
-    let more : sum_by f (range_with_len 0 k) ≤ sum_by f (range_with_len 0 (k + j + 1)) = omega (arith, sum_more f (k + j), sums_part f k j) in
-    subst (λ (i : ℕ). sum_by f (range_with_len 0 k) ≤ sum_by f (range_with_len 0 i)) (sym e) more
 
 -- ---- what the search for held columns asks of the trips
 

@@ -1,5 +1,5 @@
 -- One trip more is planned.
-use Rattle.std.proofs.Common.{ℕ, zero, suc, ◌≡◌, ◌≢◌, ◌+◌, ◌<◌, ◌≤◌, ◌⊎◌, inl, inr, true, false, nat_lt, List, ◌∷◌, ◌++◌, [], length, take, set, Some, slice_get, arith, refl, sym, ap, ◌∙◌}
+use Rattle.std.proofs.Common.{ℕ, zero, suc, ◌≡◌, ◌≢◌, ◌+◌, ◌<◌, ◌≤◌, ◌⊎◌, inl, inr, List, ◌∷◌, ◌++◌, [], length, take, set, Some, slice_get, arith, refl, sym, ap, ◌∙◌}
 use Rattle.std.proofs.lemmas.List.{take_all, length-set, length_push}
 use Rattle.std.proofs.lemmas.Bool.{cases_eq}
 use Rattle.std.proofs.lemmas.Option.{slice_get_within}
@@ -7,9 +7,10 @@ use Rattle.ae_netlist.proofs.Gets.{get_left, get_pushed, get_push_cases, get_set
 use Rattle.ae_moves.specs.declared.trip.Choice.{Choice}
 use Rattle.ae_moves.specs.declared.trip.Choice.TheVariants.{Delayed, Constant}
 use Rattle.ae_moves.specs.declared.trip.Trip.{Trip}
-use Rattle.ae_gather.specs.declared.trips.Step.{Step}
-use Rattle.ae_gather.specs.Plans.{choice_of, later, choice_in, AreInOrder, HasPlace, IsPlan, demanded}
-use Rattle.ae_gather.proofs.Choosing.{choice_one, choice_push, choice_more, first_take}
+use Rattle.ae_columns.specs.declared.steps.Step.{Step}
+use Rattle.ae_columns.specs.Plans.{choice_of, choice_in, AreInOrder, HasPlace, IsPlan, demanded}
+use Rattle.ae_columns.proofs.Later.{later_after, later_before}
+use Rattle.ae_columns.proofs.Choosing.{choice_one, choice_push, choice_more, first_take}
 
 -- what the steps of its column choose in the clock of a trip
 pub record Made (d : ℕ) (columns : List (List Step)) (trip : Trip) : Type 0 where
@@ -46,12 +47,6 @@ get_set_cases xs i n y z x there found = elim (cases_eq n i) [
 ]
 
 -- ---- the choice of steps
-
-pub later_before : (p : ℕ) (before : Choice) (step : Step) → p < step.from → later p before step ≡ before
-later_before p before step l = let t : nat_lt p step.from ≡ true = search (arith) in rw t refl
-
-pub later_after : (p : ℕ) (before : Choice) (step : Step) → step.from ≤ p → later p before step ≡ step.take
-later_after p before step l = let t : nat_lt p step.from ≡ false = search (arith) in rw t refl
 
 -- in and after its last phase
 pub choice_last : (p k : ℕ) (steps : List Step) (step : Step) → length steps ≡ k + 1 → slice_get steps k ≡ Some step → step.from ≤ p

@@ -14,9 +14,9 @@ use Rattle.ae_moves.specs.declared.trip.Source.TheVariants.{Place, Fixed}
 use Rattle.ae_moves.specs.declared.trip.Trip.{Trip}
 use Rattle.ae_moves.proofs.Lists.{get_mapped}
 use Rattle.ae_gather.specs.declared.reads.Reads.{Reads}
-use Rattle.ae_gather.specs.Columns.{net_of}
-use Rattle.ae_gather.specs.Laws.{AreFitting, FitsColumn, MakesTrips, sourced}
-use Rattle.ae_gather.specs.Plans.{AreInOrder, AreUsed, AreWithin, IsIn, IsReached}
+use Rattle.ae_columns.specs.Columns.{net_of}
+use Rattle.ae_columns.specs.Laws.{AreFitting, FitsColumn, MakesTrips, sourced}
+use Rattle.ae_columns.specs.Plans.{AreInOrder, AreUsed, AreWithin, IsIn, IsReached}
 use Rattle.ae_gather.specs.Readers.{AreReads, ReadsPlaces, ShowsPlaces}
 use Rattle.ae_gather.specs.Reads.{ArePlaced, IsPlaceOf, is_from, is_read, placed, read_source, read_trip}
 use Rattle.ae_gather.proofs.Hastened.{get_unmapped}

@@ -10,9 +10,9 @@ use Rattle.ae_netlist.proofs.Growing.{extends_trans, net_later}
 use Rattle.ae_clocked.specs.declared.ring.Ring.{Ring}
 use Rattle.ae_clocked.proofs.Making.{ring_grows}
 use Rattle.ae_gather.specs.declared.reads.Reads.{Reads}
-use Rattle.ae_gather.specs.Columns.{net_of}
+use Rattle.ae_columns.specs.Columns.{net_of}
 use Rattle.ae_gather.specs.Readers.{AreReads, AreRings, ReadsColumn, ReadsRing, RingOf}
-use Rattle.ae_gather.proofs.Keeping.{net_before, net_last}
+use Rattle.ae_columns.proofs.Keeping.{net_before, net_last}
 
 pub ring_later : {a b : List SizedCell} {rst bits x : ℕ} {ring : Ring} → Extends a b → RingOf a rst bits x ring → RingOf b rst bits x ring
 ring_later g h = record {

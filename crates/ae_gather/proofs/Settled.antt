@@ -21,16 +21,16 @@ use Rattle.ae_moves.specs.declared.trip.Source.TheVariants.{Place, Fixed}
 use Rattle.ae_moves.specs.declared.trip.Trip.{Trip}
 use Rattle.ae_moves.proofs.Held.{held_use, sum_more}
 use Rattle.ae_moves.proofs.Lists.{fold_ge, get_mapped}
-use Rattle.ae_gather.specs.Columns.{net_of}
-use Rattle.ae_gather.specs.Held.{AreKept, Holds, held_phase, is_kept, kept_count, settled, settled_source}
-use Rattle.ae_gather.specs.Laws.{AreFitting, FitsColumn, MakesTrips, sourced}
-use Rattle.ae_gather.specs.Plans.{AreInOrder, AreUsed, AreWithin, IsIn, IsReached, line_mems}
+use Rattle.ae_columns.specs.Columns.{net_of}
+use Rattle.ae_columns.specs.Held.{AreKept, Holds, held_phase, is_kept, kept_count, settled, settled_source}
+use Rattle.ae_columns.specs.Laws.{AreFitting, FitsColumn, MakesTrips, sourced}
+use Rattle.ae_columns.specs.Plans.{AreInOrder, AreUsed, AreWithin, IsIn, IsReached, line_mems}
 use Rattle.ae_gather.proofs.Delays.{sum_le}
 use Rattle.ae_gather.proofs.Hastened.{get_unmapped, stretches_mapped}
-use Rattle.ae_gather.proofs.Keeping.{keeps_grows}
+use Rattle.ae_columns.proofs.Keeping.{keeps_grows}
 use Rattle.ae_gather.proofs.Memories.{rings_least, rings_near, sums_le}
 use Rattle.ae_gather.proofs.Taking.{held_word}
-use Rattle.ae_gather.proofs.TripLaw.{phase_in_block}
+use Rattle.ae_columns.proofs.TripLaw.{phase_in_block}
 
 -- ---- the same trips otherwise
 

@@ -10,16 +10,16 @@ use Rattle.ae_clocked.specs.Phases.{phase_of}
 use Rattle.ae_moves.specs.declared.trip.Choice.TheVariants.{Constant}
 use Rattle.ae_moves.specs.declared.trip.Trip.{Trip}
 use Rattle.ae_gather.specs.declared.reads.Reads.{Reads}
-use Rattle.ae_gather.specs.declared.trips.Counters.{Counters}
-use Rattle.ae_gather.specs.declared.trips.PhaseNet.{PhaseNet}
-use Rattle.ae_gather.specs.declared.trips.Step.{Step}
-use Rattle.ae_gather.specs.Columns.{IsColumn, IsPhaseNet, net_of, taken}
-use Rattle.ae_gather.specs.Early.{is_early}
-use Rattle.ae_gather.specs.Laws.{AreColumns, AreFitting, AreLines, FitsColumn}
-use Rattle.ae_gather.specs.Plans.{AreWithin, IsPlan, choice_from, choice_in}
+use Rattle.ae_columns.specs.declared.steps.Counters.{Counters}
+use Rattle.ae_columns.specs.declared.steps.PhaseNet.{PhaseNet}
+use Rattle.ae_columns.specs.declared.steps.Step.{Step}
+use Rattle.ae_columns.specs.Columns.{IsColumn, IsPhaseNet, net_of, taken}
+use Rattle.ae_columns.specs.Early.{is_early}
+use Rattle.ae_columns.specs.Laws.{AreColumns, AreFitting, AreLines, FitsColumn}
+use Rattle.ae_columns.specs.Plans.{AreWithin, IsPlan, choice_from, choice_in}
 use Rattle.ae_gather.specs.Readers.{ShowsPlaces}
 use Rattle.ae_gather.specs.Reads.{ArePlaced}
-use Rattle.ae_gather.proofs.Registered.{sooner_phase}
+use Rattle.ae_columns.proofs.Registered.{sooner_phase}
 use Rattle.ae_gather.proofs.Rereads.{placed_trip}
 
 pub places_shown : (cells : List SizedCell) (rst period d arrival limit outs : ℕ) (phase : PhaseNet) (counters : Counters) (widths : List ℕ)

@@ -14,7 +14,7 @@ use Rattle.ae_sttype.proofs.Places.{get_or-copies, length-slots, slot_at, slot_b
 use Rattle.ae_moves.specs.declared.trip.Source.{Source}
 use Rattle.ae_moves.specs.declared.trip.Source.TheVariants.{Place, Fixed}
 use Rattle.ae_moves.specs.declared.trip.Trip.{Trip}
-use Rattle.ae_gather.specs.Plans.{AreInOrder, AreUsed, AreWithin, IsIn, IsReached}
+use Rattle.ae_columns.specs.Plans.{AreInOrder, AreUsed, AreWithin, IsIn, IsReached}
 use Rattle.ae_moves.specs.Trees.{source_tree, trip_tree}
 use Rattle.ae_moves.specs.Origins.{IsMove, Move, move_latency, move_trips}
 use Rattle.ae_moves.proofs.Lists.{fold_ge, get_mapped}

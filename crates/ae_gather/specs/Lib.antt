@@ -1,11 +1,6 @@
-pub mod Plans
-pub mod Columns
-pub mod Early
-pub mod Held
 pub mod Reads
 pub mod Readers
 pub mod Readings
-pub mod Laws
 pub mod Gathers
 pub mod Joins
 pub mod Counts

@@ -9,7 +9,7 @@ use Rattle.ae_moves.specs.declared.trip.Source.TheVariants.{Fixed}
 use Rattle.ae_moves.specs.declared.trip.Trip.{Trip}
 use Rattle.ae_gather.specs.declared.reads.Reads.{Reads}
 use Rattle.ae_clocked.specs.declared.ring.Ring.{Ring}
-use Rattle.ae_gather.specs.Columns.{net_of}
+use Rattle.ae_columns.specs.Columns.{net_of}
 
 -- where a place is so many clocks short of a whole turn of the ring, y has a clock later the word that x had so many clocks before
 abbrev pub ReadsPlaces : List Clock → (start bits x place y : ℕ) → Type 0

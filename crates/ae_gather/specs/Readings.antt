@@ -5,8 +5,8 @@ use Rattle.ae_moves.specs.declared.trip.Trip.{Trip}
 use Rattle.ae_gather.specs.declared.reading.Reading.{Reading}
 use Rattle.ae_gather.specs.declared.early.Schedule.{Schedule}
 use Rattle.ae_gather.specs.Counts.{IsSpare}
-use Rattle.ae_gather.specs.Early.{AreInTime, hastened}
-use Rattle.ae_gather.specs.Plans.{IsPlan, line_mems, steps_cells}
+use Rattle.ae_columns.specs.Early.{AreInTime, hastened}
+use Rattle.ae_columns.specs.Plans.{IsPlan, line_mems, steps_cells}
 use Rattle.ae_gather.specs.Reads.{ArePlaced, read_trip, ring_count}
 
 -- the trips from what is read, their plan, and that of the places, for so many input and output columns

@@ -3,13 +3,14 @@
 ghost use Rattle.std.specs.Prelude.{◌≡◌, ◌<◌, ◌≤◌, ◌+◌, ◌*◌, ◌^◌, ◌∷◌, [], if◌then◌else◌, ℕ, List, length, count_by, sum_by, nat_lt, Some, slice_get};
 ghost use Rattle.ae_clocked.specs.Delays.{greatest_of, line_cells};
 ghost use Rattle.ae_clocked.specs.Rings.{rings};
-ghost use Rattle.ae_gather.specs.Counts.{early_count, line_registers, reader_count, reader_registers, steps_tests};
-ghost use Rattle.ae_gather.specs.Plans.{line_mems, steps_cells};
+ghost use Rattle.ae_columns.specs.Counts.{early_count, steps_tests};
+ghost use Rattle.ae_gather.specs.Counts.{line_registers, reader_count, reader_registers};
+ghost use Rattle.ae_columns.specs.Plans.{line_mems, steps_cells};
 ghost use Rattle.ae_gather.specs.Reads.{ring_count};
 
 use crate::plan::{Ages, Steps};
 use crate::reads::Reads;
-use crate::trips::Step;
+use ae_columns::Step;
 
 fn greatest(ages: &[u32]) -> u32
     ensures { result ≡ greatest_of ages.now }

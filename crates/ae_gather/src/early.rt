@@ -5,14 +5,15 @@ ghost use Rattle.ae_sttype.specs.Moves.{column_delay, delay_of, runs_of};
 ghost use Rattle.ae_clocked.specs.Delays.{greatest_of};
 ghost use Rattle.ae_moves.specs.Trees.{trip_tree};
 ghost use Rattle.ae_moves.specs.declared.trip.Trip.{Trip as Way};
-ghost use Rattle.ae_gather.specs.declared.trips.Step.{Step as Part};
-ghost use Rattle.ae_gather.specs.Plans.{AreInOrder, AreWithin, IsPlan, IsReached};
-ghost use Rattle.ae_gather.specs.Counts.{early_count, schedule_registers};
-ghost use Rattle.ae_gather.specs.Early.{AllComeLate, AreInTime, ComesLate, hastened, is_early};
+ghost use Rattle.ae_columns.specs.declared.steps.Step.{Step as Part};
+ghost use Rattle.ae_columns.specs.Plans.{AreInOrder, AreWithin, IsPlan, IsReached};
+ghost use Rattle.ae_columns.specs.Counts.{early_count};
+ghost use Rattle.ae_gather.specs.Counts.{schedule_registers};
+ghost use Rattle.ae_columns.specs.Early.{AllComeLate, AreInTime, ComesLate, hastened, is_early};
 
 use crate::cost::{early_count, lines_registers};
 use crate::plan::{Plan, Steps, planned};
-use crate::trips::Step;
+use ae_columns::Step;
 use ae_moves::{Choice, Source, Trip};
 use std::alloc::{AllocError, Global};
 

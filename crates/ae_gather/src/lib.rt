@@ -1,12 +1,8 @@
 //! Moves of words between layouts, in hardware.
 #![tactic(auto)]
 
-mod column;
 mod cost;
-mod counters;
 mod early;
-mod held;
-mod holding;
 mod joining;
 mod layouts;
 mod moving;
@@ -16,7 +12,6 @@ mod reading;
 mod reads;
 mod rings;
 mod stage;
-mod trips;
 
 pub use ae_moves::Origin;
 pub use stage::Gather;

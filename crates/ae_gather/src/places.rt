@@ -1,7 +1,7 @@
 // The trips of a move whose words are read from rings, and the places that are read.
 
 ghost use Rattle.std.specs.Prelude.{◌≡◌, ◌<◌, ◌≤◌, ◌+◌, ◌^◌, ℕ, length, map, IfOk, Some, get_or};
-ghost use Rattle.ae_gather.specs.Plans.{AreWithin, IsIn, IsReached};
+ghost use Rattle.ae_columns.specs.Plans.{AreWithin, IsIn, IsReached};
 ghost use Rattle.ae_gather.specs.Reads.{ArePlaced, IsPlaceOf, is_read, read_source, read_trip};
 
 use crate::reads::Reads;

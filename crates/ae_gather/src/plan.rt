@@ -3,11 +3,11 @@
 ghost use Rattle.std.specs.Prelude.{◌≡◌, ◌<◌, ◌≤◌, ◌+◌, ◌-◌, ◌^◌, ◌∷◌, ◌++◌, [], ℕ, List, length, map, sum_by, IfOk, OnOk, IsTrue, ◌↔◌, Some, slice_get};
 ghost use Rattle.ae_sttype.specs.Moves.{column_delay, delay_of, runs_of};
 ghost use Rattle.ae_clocked.specs.Delays.{greatest_of};
-ghost use Rattle.ae_gather.specs.declared.trips.Step.{Step as Part};
-ghost use Rattle.ae_gather.specs.Plans.{choice_of, IsReached, AreInOrder, AreWithin, IsPlan, demanded, IsInLines};
+ghost use Rattle.ae_columns.specs.declared.steps.Step.{Step as Part};
+ghost use Rattle.ae_columns.specs.Plans.{choice_of, IsReached, AreInOrder, AreWithin, IsPlan, demanded, IsInLines};
 ghost use Rattle.ae_moves.specs.Trees.{trip_tree};
 
-use crate::trips::Step;
+use ae_columns::Step;
 use ae_moves::{Choice, Source, Trip};
 use std::alloc::{AllocError, Global};
 use std::marker::Model;
@@ -34,7 +34,7 @@ pub struct Steps {
 
 impl Model for Steps {
     ghost use Rattle.std.specs.Prelude.{List};
-    ghost use Rattle.ae_gather.specs.declared.trips.Step.{Step};
+    ghost use Rattle.ae_columns.specs.declared.steps.Step.{Step};
 
     ghost Value = { List Step };
 

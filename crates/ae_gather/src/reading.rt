@@ -9,11 +9,12 @@ ghost use Rattle.ae_clocked.specs.Phases.{Belongs, KeepsCounters, made_of};
 ghost use Rattle.ae_clocked.specs.Delays.{line_cells};
 ghost use Rattle.ae_clocked.specs.Rings.{AddsMemories};
 ghost use Rattle.ae_clocked.specs.declared.ring.Ring.{Ring as Ringed};
-ghost use Rattle.ae_gather.specs.Columns.{net_of};
-ghost use Rattle.ae_gather.specs.Counts.{Counted, IsSpare, reader_count, reader_registers, schedule_registers, steps_tests};
-ghost use Rattle.ae_gather.specs.Early.{AreInTime, hastened};
-ghost use Rattle.ae_gather.specs.Laws.{AreFitting, FitsColumn, MakesTrips};
-ghost use Rattle.ae_gather.specs.Plans.{AreInOrder, AreUsed, AreWithin, IsPlan, line_mems, steps_cells};
+ghost use Rattle.ae_columns.specs.Columns.{net_of};
+ghost use Rattle.ae_columns.specs.Counts.{Counted, steps_tests};
+ghost use Rattle.ae_gather.specs.Counts.{IsSpare, reader_count, reader_registers, schedule_registers};
+ghost use Rattle.ae_columns.specs.Early.{AreInTime, hastened};
+ghost use Rattle.ae_columns.specs.Laws.{AreFitting, FitsColumn, MakesTrips};
+ghost use Rattle.ae_columns.specs.Plans.{AreInOrder, AreUsed, AreWithin, IsPlan, line_mems, steps_cells};
 ghost use Rattle.ae_gather.specs.Readings.{IsNoDearer, IsReading};
 ghost use Rattle.ae_gather.specs.Readers.{AreReads, AreRings, ReadsColumn, RingOf, ShowsPlaces};
 ghost use Rattle.ae_gather.specs.Reads.{ring_count};
@@ -23,15 +24,14 @@ use crate::cost::{
     columns_cost, columns_steps, columns_tests, early_count, lines_cost, lines_registers,
     lines_rings, readers_count, rings_count,
 };
-use crate::counters::{counting, offset};
 use crate::early::{Schedule, none_early, scheduled};
 use crate::moving::{all_columns, build_plan, limit_of};
 use crate::places::{all_places, all_read};
 use crate::plan::{Plan, planned};
 use crate::reads::{Reads, which_read};
 use crate::rings::{make_ring, ring_read};
-use crate::trips::Counters;
 use ae_clocked::{Clocks, Ring, width_at};
+use ae_columns::{Counters, counting, offset};
 use ae_moves::Trip;
 use ae_netlist::{NetFault, NetId, Netlist};
 use std::alloc::{AllocError, Global};

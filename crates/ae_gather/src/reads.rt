@@ -1,7 +1,7 @@
 // Which output columns read their words from a ring of an input column, one word in each clock.
 
 ghost use Rattle.std.specs.Prelude.{◌≡◌, ◌<◌, ◌≤◌, length, IfOk};
-ghost use Rattle.ae_gather.specs.Plans.{AreWithin, IsIn};
+ghost use Rattle.ae_columns.specs.Plans.{AreWithin, IsIn};
 
 use ae_moves::{Source, Trip};
 use std::alloc::{AllocError, Global};

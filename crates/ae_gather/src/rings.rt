@@ -5,7 +5,7 @@ ghost use Rattle.ae_netlist.specs.Circuit.{IsMemory, IsNet};
 ghost use Rattle.ae_clocked.specs.Signals.{Adds, IsFullAt};
 ghost use Rattle.ae_clocked.specs.Phases.{Belongs, KeepsCounters, made_of};
 ghost use Rattle.ae_clocked.specs.Rings.{AddsMemories, IsRing};
-ghost use Rattle.ae_gather.specs.Counts.{Counted};
+ghost use Rattle.ae_columns.specs.Counts.{Counted};
 ghost use Rattle.ae_gather.specs.Readers.{IsReader, RingOf};
 
 use ae_clocked::{Clocks, Ring, delayed, look, ring_depth, store, sum};

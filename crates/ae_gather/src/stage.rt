@@ -6,7 +6,7 @@ ghost use Rattle.ae_clocked.specs.Signals.{Grows, IsFullAt};
 ghost use Rattle.ae_clocked.specs.Phases.{Belongs, KeepsCounters, made_of};
 ghost use Rattle.ae_ops.specs.Waves.{AreNets};
 ghost use Rattle.ae_ops.specs.Blocks.{AreBundles, KeepsLaw, stream_widths};
-ghost use Rattle.ae_gather.specs.Counts.{Counted};
+ghost use Rattle.ae_columns.specs.Counts.{Counted};
 ghost use Rattle.ae_sttype.specs.StTree.{st_tree, time};
 ghost use Rattle.ae_moves.specs.Trees.{origin_tree};
 ghost use Rattle.ae_gather.specs.Gathers.{IsGather, gather_part, move_of, move_registers, move_tests};

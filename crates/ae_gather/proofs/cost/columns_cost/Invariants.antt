@@ -1,5 +1,5 @@
 use Rattle.std.proofs.Common.{◌<◌, ◌≤◌, take, sum_by}
-use Rattle.ae_gather.specs.Plans.{steps_cells}
+use Rattle.ae_columns.specs.Plans.{steps_cells}
 use Rattle.ae_gather.proofs.cost.columns_cost.Given as goal
 
 abbrev pub invariant-loop-q : goal.invariant-loop-q

@@ -1,5 +1,5 @@
 use Rattle.std.proofs.Common.{◌<◌, ◌≤◌, sum_by, take}
-use Rattle.ae_gather.specs.Counts.{steps_tests}
+use Rattle.ae_columns.specs.Counts.{steps_tests}
 use Rattle.ae_gather.proofs.cost.columns_tests.Given as goal
 
 abbrev pub invariant-loop-q : goal.invariant-loop-q

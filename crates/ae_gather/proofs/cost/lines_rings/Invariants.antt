@@ -1,5 +1,5 @@
 use Rattle.std.proofs.Common.{◌<◌, ◌≤◌, take, sum_by}
-use Rattle.ae_gather.specs.Plans.{line_mems}
+use Rattle.ae_columns.specs.Plans.{line_mems}
 use Rattle.ae_gather.proofs.cost.lines_rings.Given as goal
 
 abbrev pub invariant-loop-q : goal.invariant-loop-q

@@ -1,6 +1,6 @@
 use Rattle.std.proofs.Common.{◌≡◌, ◌<◌, ℕ, Some, slice_get}
-use Rattle.ae_gather.specs.declared.trips.Step.{Step}
-use Rattle.ae_gather.specs.Early.{ComesLate}
+use Rattle.ae_columns.specs.declared.steps.Step.{Step}
+use Rattle.ae_columns.specs.Early.{ComesLate}
 use Rattle.ae_gather.proofs.early.all_come_late.Given as goal
 
 abbrev pub invariant-loop-k : goal.invariant-loop-k

@@ -4,7 +4,7 @@ use Rattle.std.proofs.lemmas.List.{map_more}
 use Rattle.std.proofs.lemmas.Option.{slice_get-get_or}
 use Rattle.ae_moves.specs.declared.trip.Source.TheVariants.{Place}
 use Rattle.ae_moves.specs.declared.trip.Trip.{Trip}
-use Rattle.ae_gather.specs.Early.{hastened}
+use Rattle.ae_columns.specs.Early.{hastened}
 use Rattle.ae_gather.proofs.early.all_sooner.Goals as goal
 
 abbrev no_trip : Trip

@@ -1,5 +1,5 @@
 use Rattle.std.proofs.Common.{◌≡◌, map, take}
-use Rattle.ae_gather.specs.Early.{hastened}
+use Rattle.ae_columns.specs.Early.{hastened}
 use Rattle.ae_gather.proofs.early.all_sooner.Given as goal
 
 abbrev pub invariant-loop-trip : goal.invariant-loop-trip

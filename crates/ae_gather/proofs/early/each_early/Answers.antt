@@ -1,7 +1,7 @@
 use Rattle.std.proofs.Common.{◌≡◌, ◌+◌, length, slice_get, Some, refl, arith, ap, ◌∙◌}
 use Rattle.std.proofs.lemmas.List.{length_push}
 use Rattle.std.proofs.lemmas.Option.{slice_get_read, slice_get_within}
-use Rattle.ae_gather.proofs.Earliness.{early_push}
+use Rattle.ae_columns.proofs.Earliness.{early_push}
 use Rattle.ae_gather.proofs.early.each_early.Goals as goal
 
 pub loop-q-preserved : goal.loop-q-preserved

@@ -1,6 +1,6 @@
 use Rattle.std.proofs.Common.{◌≡◌, ◌<◌, ℕ, true, List, Some, length, slice_get}
-use Rattle.ae_gather.specs.declared.trips.Step.{Step}
-use Rattle.ae_gather.specs.Early.{AllComeLate, is_early}
+use Rattle.ae_columns.specs.declared.steps.Step.{Step}
+use Rattle.ae_columns.specs.Early.{AllComeLate, is_early}
 use Rattle.ae_gather.proofs.early.each_early.Given as goal
 
 abbrev pub invariant-loop-q : goal.invariant-loop-q

@@ -1,5 +1,5 @@
 use Rattle.std.proofs.Common.{◌≡◌, ℕ, false, length}
-use Rattle.ae_gather.specs.Early.{is_early}
+use Rattle.ae_columns.specs.Early.{is_early}
 use Rattle.ae_gather.proofs.early.none_early.Given as goal
 
 abbrev pub invariant-loop-i : goal.invariant-loop-i

@@ -1,5 +1,5 @@
 use Rattle.std.proofs.Common.{◌≡◌, map, arith}
-use Rattle.ae_gather.specs.Early.{hastened}
+use Rattle.ae_columns.specs.Early.{hastened}
 use Rattle.ae_gather.proofs.Hastened.{column_hastened, delay_hastened, order_hastened, runs_hastened, within_hastened}
 use Rattle.ae_gather.proofs.early.schedule_of.Goals as goal
 

@@ -1,8 +1,8 @@
 -- Columns are chosen early, or none is.
 use Rattle.std.proofs.Common.{◌≡◌, arith}
-use Rattle.ae_gather.specs.Counts.{early_count}
-use Rattle.ae_gather.proofs.Counted.{none_count}
-use Rattle.ae_gather.proofs.Earliness.{none_in_time}
+use Rattle.ae_columns.specs.Counts.{early_count}
+use Rattle.ae_columns.proofs.Counted.{none_count}
+use Rattle.ae_columns.proofs.Earliness.{none_in_time}
 use Rattle.ae_gather.proofs.early.scheduled.Goals as goal
 
 pub schedule_of-requires-clause-time : goal.schedule_of-requires-clause-time

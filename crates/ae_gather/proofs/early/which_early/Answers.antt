@@ -1,4 +1,4 @@
-use Rattle.ae_gather.proofs.Earliness.{in_time}
+use Rattle.ae_columns.proofs.Earliness.{in_time}
 use Rattle.ae_gather.proofs.early.which_early.Goals as goal
 
 pub returns-clause-time : goal.returns-clause-time

@@ -3,14 +3,14 @@ use Rattle.std.proofs.Common.{◌≡◌, ◌+◌, length, slice_get, get_or, fal
 use Rattle.std.proofs.lemmas.Option.{slice_get_read, slice_get-get_or}
 use Rattle.ae_clocked.proofs.Adding.{adds_most, adds_none, adds_trans}
 use Rattle.ae_clocked.specs.Signals.{Adds}
-use Rattle.ae_gather.specs.Plans.{choice_in, steps_cells}
+use Rattle.ae_columns.specs.Plans.{choice_in, steps_cells}
 use Rattle.ae_clocked.specs.Phases.{made_of}
 use Rattle.ae_clocked.proofs.Belonging.{keeps_same}
 use Rattle.ae_clocked.proofs.InRow.{keeps_trans}
-use Rattle.ae_gather.specs.Counts.{Counted, steps_tests}
-use Rattle.ae_gather.proofs.Counted.{counted_most, counted_none, counted_trans}
-use Rattle.ae_gather.specs.Early.{IsMade, counter_for, is_early}
-use Rattle.ae_gather.proofs.Choosing.{all_ready_grows, phase_grows}
+use Rattle.ae_columns.specs.Counts.{Counted, steps_tests}
+use Rattle.ae_columns.proofs.Counted.{counted_most, counted_none, counted_trans}
+use Rattle.ae_columns.specs.Early.{IsMade, counter_for, is_early}
+use Rattle.ae_columns.proofs.Choosing.{all_ready_grows, phase_grows}
 use Rattle.ae_moves.proofs.Lists.{sum_next, sum_part}
 use Rattle.ae_gather.proofs.Building.{columns_begin, columns_more, columns_whole}
 use Rattle.ae_gather.proofs.moving.all_columns.Goals as goal

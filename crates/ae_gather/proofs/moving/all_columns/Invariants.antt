@@ -1,9 +1,9 @@
 use Rattle.std.proofs.Common.{◌+◌, ◌*◌, ◌≤◌, length, sum_by, take}
 use Rattle.ae_clocked.specs.Signals.{Adds}
 use Rattle.ae_clocked.specs.Phases.{Belongs, KeepsCounters, made_of}
-use Rattle.ae_gather.specs.Counts.{Counted, early_count, steps_tests}
-use Rattle.ae_gather.specs.Plans.{steps_cells}
-use Rattle.ae_gather.specs.Laws.{AreColumns}
+use Rattle.ae_columns.specs.Counts.{Counted, early_count, steps_tests}
+use Rattle.ae_columns.specs.Plans.{steps_cells}
+use Rattle.ae_columns.specs.Laws.{AreColumns}
 use Rattle.ae_gather.proofs.moving.all_columns.Given as goal
 
 abbrev pub invariant-loop-q : goal.invariant-loop-q

@@ -7,12 +7,12 @@ use Rattle.ae_clocked.specs.Delays.{AreTaps, line_cells}
 use Rattle.ae_clocked.proofs.Adding.{grows_refl, grows_trans}
 use Rattle.ae_clocked.proofs.Added.{own_net}
 use Rattle.ae_clocked.proofs.Belonging.{keeps_same}
-use Rattle.ae_gather.specs.Columns.{net_of}
+use Rattle.ae_columns.specs.Columns.{net_of}
 use Rattle.ae_moves.proofs.Lists.{sum_next, sum_part}
-use Rattle.ae_gather.specs.Plans.{line_mems}
+use Rattle.ae_columns.specs.Plans.{line_mems}
 use Rattle.ae_gather.proofs.Building.{lines_begin, lines_more, lines_whole}
 use Rattle.ae_gather.specs.Counts.{line_registers}
-use Rattle.ae_gather.proofs.Counted.{counted_most, counted_none}
+use Rattle.ae_columns.proofs.Counted.{counted_most, counted_none}
 use Rattle.ae_gather.proofs.moving.all_lines.Goals as goal
 use Rattle.ae_clocked.proofs.InRow.{keeps_trans}
 

@@ -2,10 +2,11 @@ use Rattle.std.proofs.Common.{◌≡◌, ◌+◌, ◌≤◌, length, sum_by, tak
 use Rattle.ae_netlist.specs.Counts.{AreWhole, count_of, is_memory, is_mul}
 use Rattle.ae_clocked.specs.Signals.{Grows}
 use Rattle.ae_clocked.specs.Phases.{Belongs, KeepsCounters, made_of}
-use Rattle.ae_gather.specs.Counts.{Counted, line_registers}
+use Rattle.ae_columns.specs.Counts.{Counted}
+use Rattle.ae_gather.specs.Counts.{line_registers}
 use Rattle.ae_clocked.specs.Delays.{line_cells}
-use Rattle.ae_gather.specs.Laws.{AreLines}
-use Rattle.ae_gather.specs.Plans.{line_mems}
+use Rattle.ae_columns.specs.Laws.{AreLines}
+use Rattle.ae_columns.specs.Plans.{line_mems}
 use Rattle.ae_gather.proofs.moving.all_lines.Given as goal
 
 abbrev pub invariant-loop-q : goal.invariant-loop-q

@@ -4,12 +4,12 @@ use Rattle.std.proofs.lemmas.Option.{slice_get_within}
 use Rattle.ae_netlist.proofs.Growing.{net_later}
 use Rattle.ae_clocked.specs.Delays.{line_cells}
 use Rattle.ae_clocked.proofs.Adding.{grows_trans}
-use Rattle.ae_gather.specs.Plans.{IsPlan, line_mems, steps_cells}
+use Rattle.ae_columns.specs.Plans.{IsPlan, line_mems, steps_cells}
 use Rattle.ae_gather.proofs.Building.{begun_of, fitting_grows, steps_ready}
-use Rattle.ae_gather.proofs.Choosing.{phase_grows}
+use Rattle.ae_columns.proofs.Choosing.{phase_grows}
 use Rattle.ae_gather.proofs.Hastened.{clocks_hastened, fitting_hastened, used_hastened}
-use Rattle.ae_gather.proofs.Scheduled.{columns_trips, columns_nets, has_grows}
-use Rattle.ae_gather.proofs.Counted.{counted_most, counted_trans}
+use Rattle.ae_columns.proofs.Scheduled.{columns_trips, columns_nets, has_grows}
+use Rattle.ae_columns.proofs.Counted.{counted_most, counted_trans}
 use Rattle.ae_gather.proofs.moving.build_plan.Goals as goal
 use Rattle.ae_clocked.proofs.InRow.{keeps_trans}
 

@@ -5,17 +5,17 @@ use Rattle.ae_clocked.specs.Signals.{Adds}
 use Rattle.ae_clocked.proofs.Adding.{grows_trans}
 use Rattle.ae_moves.specs.Rings.{AreHeld}
 use Rattle.ae_moves.specs.Trees.{trip_tree}
-use Rattle.ae_gather.specs.Held.{AreKept, kept_count, settled}
-use Rattle.ae_gather.specs.Plans.{AreWithin}
+use Rattle.ae_columns.specs.Held.{AreKept, kept_count, settled}
+use Rattle.ae_columns.specs.Plans.{AreWithin}
 use Rattle.ae_gather.proofs.Building.{begun_of, fitting_grows}
 use Rattle.ae_gather.proofs.Delays.{gather_cells}
 use Rattle.ae_gather.proofs.Hastened.{used_hastened}
 use Rattle.ae_gather.proofs.Memories.{trees_within}
 use Rattle.ae_gather.proofs.Settled.{delay_all, fitting_settled, kept_few, kept_grows, kept_nets, mems_all, order_settled, runs_settled, trips_settled, used_settled, within_settled}
 use Rattle.std.proofs.lemmas.Bool.{cases_lt}
-use Rattle.ae_gather.specs.Counts.{early_count}
+use Rattle.ae_columns.specs.Counts.{early_count}
 use Rattle.ae_gather.proofs.Bounded.{kept_held, registers_all, steps_settled}
-use Rattle.ae_gather.proofs.Counted.{counted_most, counted_trans}
+use Rattle.ae_columns.proofs.Counted.{counted_most, counted_trans}
 use Rattle.ae_gather.proofs.moving.gather.Goals as goal
 use Rattle.ae_clocked.proofs.InRow.{keeps_trans}
 

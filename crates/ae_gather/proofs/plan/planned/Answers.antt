@@ -4,8 +4,8 @@ use Rattle.std.proofs.lemmas.List.{length-map}
 use Rattle.std.proofs.lemmas.Option.{slice_get-get_or, slice_get_read, get_or_from_slice_get}
 use Rattle.ae_moves.specs.declared.trip.Source.TheVariants.{Place}
 use Rattle.ae_moves.specs.declared.trip.Trip.{Trip}
-use Rattle.ae_gather.specs.declared.trips.Step.{Step}
-use Rattle.ae_gather.specs.Plans.{choice_of, demanded}
+use Rattle.ae_columns.specs.declared.steps.Step.{Step}
+use Rattle.ae_columns.specs.Plans.{choice_of, demanded}
 use Rattle.ae_moves.specs.Trees.{choice_tree, trip_tree}
 use Rattle.ae_gather.proofs.Delays.{ages_more, ages_none, column_le, delay_le, in_lines, none_sum, taps_more}
 use Rattle.ae_moves.proofs.Lists.{get_mapped}

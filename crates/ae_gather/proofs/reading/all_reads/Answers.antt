@@ -3,7 +3,7 @@ use Rattle.std.proofs.Common.{ℕ, ◌+◌, ◌*◌, ◌<◌, ◌≤◌, length,
 use Rattle.std.proofs.lemmas.Option.{slice_get-get_or}
 use Rattle.ae_moves.proofs.Lists.{sum_next, sum_part}
 use Rattle.ae_gather.specs.Counts.{reader_registers}
-use Rattle.ae_gather.proofs.Counted.{counted_most, counted_trans}
+use Rattle.ae_columns.proofs.Counted.{counted_most, counted_trans}
 use Rattle.ae_clocked.proofs.Adding.{adds_most, adds_trans, net_added}
 use Rattle.ae_gather.proofs.Ringing.{reads_more, reads_whole, rings_grow}
 use Rattle.ae_gather.proofs.reading.all_reads.Goals as goal

@@ -7,7 +7,7 @@ use Rattle.ae_clocked.proofs.Added.{own_net}
 use Rattle.ae_clocked.proofs.Making.{memories_most, memories_trans}
 use Rattle.ae_moves.proofs.Lists.{sum_next, sum_part}
 use Rattle.ae_gather.proofs.Ringing.{rings_more}
-use Rattle.ae_gather.proofs.Counted.{counted_trans}
+use Rattle.ae_columns.proofs.Counted.{counted_trans}
 use Rattle.ae_gather.proofs.reading.all_rings.Goals as goal
 use Rattle.ae_clocked.proofs.InRow.{keeps_trans}
 

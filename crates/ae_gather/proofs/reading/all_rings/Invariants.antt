@@ -1,6 +1,6 @@
 use Rattle.std.proofs.Common.{◌*◌, take}
 use Rattle.ae_clocked.specs.Phases.{Belongs, KeepsCounters, made_of}
-use Rattle.ae_gather.specs.Counts.{Counted}
+use Rattle.ae_columns.specs.Counts.{Counted}
 use Rattle.ae_clocked.specs.Rings.{AddsMemories}
 use Rattle.ae_gather.specs.Readers.{AreRings}
 use Rattle.ae_gather.specs.Reads.{ring_count}

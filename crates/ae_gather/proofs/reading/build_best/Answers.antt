@@ -2,7 +2,7 @@
 use Rattle.std.proofs.Common.{ℕ, ◌≡◌, ◌<◌, ◌≤◌, ◌+◌, ◌*◌, ◌^◌, arith}
 use Rattle.ae_clocked.proofs.Adding.{grows_refl}
 use Rattle.ae_clocked.proofs.Belonging.{keeps_same}
-use Rattle.ae_gather.proofs.Counted.{counted_most, tests_few}
+use Rattle.ae_columns.proofs.Counted.{counted_most, tests_few}
 use Rattle.ae_gather.proofs.reading.build_best.Goals as goal
 
 below_limit : (a b n : ℕ) → a < b → b ≤ n → a < n

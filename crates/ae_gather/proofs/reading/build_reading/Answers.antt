@@ -4,7 +4,7 @@ use Rattle.std.proofs.lemmas.List.{length-map}
 use Rattle.ae_netlist.proofs.Growing.{net_later}
 use Rattle.ae_clocked.proofs.Adding.{grows_trans}
 use Rattle.ae_clocked.proofs.Belonging.{belongs_grows}
-use Rattle.ae_gather.specs.Plans.{AreWithin}
+use Rattle.ae_columns.specs.Plans.{AreWithin}
 use Rattle.ae_gather.specs.Readers.{AreReads}
 use Rattle.ae_gather.specs.Reads.{read_trip}
 use Rattle.ae_gather.proofs.Building.{fitting_grows}

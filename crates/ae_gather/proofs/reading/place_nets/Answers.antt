@@ -5,10 +5,10 @@ use Rattle.ae_netlist.specs.declared.cell.NetId.{NetId}
 use Rattle.ae_clocked.proofs.Adding.{adds_most, adds_same, adds_trans}
 use Rattle.ae_clocked.proofs.InRow.{keeps_trans}
 use Rattle.ae_gather.proofs.Building.{begun_of, fitting_grows, steps_ready}
-use Rattle.ae_gather.proofs.Choosing.{phase_grows}
-use Rattle.ae_gather.proofs.Scheduled.{columns_nets}
+use Rattle.ae_columns.proofs.Choosing.{phase_grows}
+use Rattle.ae_columns.proofs.Scheduled.{columns_nets}
 use Rattle.ae_gather.proofs.Showing.{fitting_places, no_lines, places_shown}
-use Rattle.ae_gather.proofs.Counted.{counted_most, counted_trans, none_count}
+use Rattle.ae_columns.proofs.Counted.{counted_most, counted_trans, none_count}
 use Rattle.ae_gather.proofs.reading.place_nets.Goals as goal
 
 pub all_columns-requires-clause-begun : goal.all_columns-requires-clause-begun

@@ -1,6 +1,6 @@
 -- The trips from what is read, and those of places.
 use Rattle.std.proofs.Common.{length, refl}
-use Rattle.ae_gather.specs.Plans.{AreWithin}
+use Rattle.ae_columns.specs.Plans.{AreWithin}
 use Rattle.ae_gather.proofs.Rereads.{order_placed, order_read, within_placed, within_read}
 use Rattle.ae_gather.proofs.reading.plan_reading.Goals as goal
 

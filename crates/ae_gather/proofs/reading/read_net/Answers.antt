@@ -3,7 +3,7 @@ use Rattle.std.proofs.Common.{◌≡◌, Some, None, length, slice_get, arith, r
 use Rattle.std.proofs.lemmas.Option.{get_or_from_slice_get, slice_get-get_or, slice_get_read}
 use Rattle.ae_netlist.proofs.Growing.{net_later, net_width}
 use Rattle.ae_clocked.proofs.Added.{own_net}
-use Rattle.ae_gather.specs.Columns.{net_of}
+use Rattle.ae_columns.specs.Columns.{net_of}
 use Rattle.ae_gather.proofs.reading.read_net.Goals as goal
 
 pub width_at-width-requires : goal.width_at-width-requires

@@ -1,0 +1,10 @@
+pub mod Choosing
+pub mod Later
+pub mod Parts
+pub mod TripLaw
+pub mod Registered
+pub mod Scheduled
+pub mod Earliness
+pub mod HeldLaw
+pub mod Keeping
+pub mod Counted
