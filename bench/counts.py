@@ -71,6 +71,7 @@ def table():
     yield "statements of lemmas", sum(map(len, stated.values())), f"{len(twice)} stand more than once, in {sum(map(len, twice.values()))} places"
     yield "files of answers to goals", len(answers), ""
     yield "must-fail edits", len(files("*/must-fail/*.edit")), f"in {len({it.parent for it in files('*/must-fail/*.edit')})} crates"
+    yield "planted bugs that the gate does not try", len(files("*/planted/*.edit")), f"in {len({it.parent for it in files('*/planted/*.edit')})} crates"
     yield "derived impls", sum(len([it for it in line.split(",") if it.strip() in ("Debug", "PartialEq", "Hash", "Error")]) for line in derived), "Debug, PartialEq, Hash and Error: each is proved"
     yield "arms `_` of definitions", len(arms()), ""
     yield "faults turned into faults by hand", sum(len(re.findall(r"Err\(_\) => (?:return )?Err\(", path.read_text())) for path in code()), "arms that keep nothing of the fault"
