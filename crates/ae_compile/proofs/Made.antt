@@ -21,7 +21,8 @@ use Rattle.ae_trace.specs.Traces.{is_movement}
 use Rattle.ae_moves.specs.Origins.{Move}
 use Rattle.ae_rewrite.specs.StProgramTree.{st_trees}
 use Rattle.ae_fuse.specs.Costing.{item_move}
-use Rattle.ae_fuse.specs.Fused.{FusedView, IsFusedOf, result_move}
+use Rattle.ae_results.specs.Results.{result_move}
+use Rattle.ae_fuse.specs.Fused.{FusedView, IsFusedOf}
 use Rattle.ae_fuse.specs.Fused.{costs_in as moves_costs}
 use Rattle.ae_fuse.specs.Lowered.{IsFusedCircuit, outs_in}
 use Rattle.ae_fuse.proofs.Circuits.{outs-same}

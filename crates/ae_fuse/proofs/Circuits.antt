@@ -42,9 +42,10 @@ use Rattle.ae_lower.proofs.Whole.{ported_made}
 use Rattle.ae_trace.specs.Traces.{trace, traced_move, traced_moves}
 use Rattle.ae_trace.proofs.Firsts.{below-greatest, move-of}
 use Rattle.ae_trace.proofs.Typed.{mapped-from}
-use Rattle.ae_fuse.specs.declared.results.FusedResult.{FusedResult}
+use Rattle.ae_results.specs.declared.result.FusedResult.{FusedResult}
 use Rattle.ae_fuse.specs.Costing.{item_move, moves_latency, result_load, result_mems}
-use Rattle.ae_fuse.specs.Fused.{FusedView, IsFusedOf, costs_in, moves_in, outs_of, result_move}
+use Rattle.ae_results.specs.Results.{result_move}
+use Rattle.ae_fuse.specs.Fused.{FusedView, IsFusedOf, costs_in, moves_in, outs_of}
 use Rattle.ae_fuse.specs.Lowered.{AreLateResults, IsFusedCircuit, IsWhole, MakesMoves, late_part, outs_in, result_stream}
 use Rattle.ae_fuse.proofs.Main.{is-main, moves-traced}
 use Rattle.ae_fuse.proofs.Making.{moves-make-blocks}

@@ -27,17 +27,18 @@ use Rattle.ae_delay.specs.declared.own.OwnCosts.{OwnCosts}
 use Rattle.ae_trace.specs.Traces.{is_movement, least, numbered, trace, traced_move, traced_moves}
 use Rattle.ae_trace.specs.Certificates.{IsCertificate}
 use Rattle.ae_trace.proofs.Typed.{mapped-from}
-use Rattle.ae_fuse.specs.declared.certificate.Certificate.{Certificate}
-use Rattle.ae_fuse.specs.declared.results.FusedResult.{FusedResult}
+use Rattle.ae_results.specs.declared.certificate.Certificate.{Certificate}
+use Rattle.ae_results.specs.declared.result.FusedResult.{FusedResult}
 use Rattle.ae_fuse.specs.Labels.{labelled_origin}
-use Rattle.ae_fuse.specs.Certified.{IsFirstOf, certificate_tree}
+use Rattle.ae_results.specs.Certified.{IsFirstOf, certificate_tree}
 use Rattle.ae_fuse.specs.Costing.{arrivals_from, fused_costing, fused_costs, item_move, moves_latency, result_moves}
 use Rattle.ae_fuse.specs.Moved.{HaveResults, own_labels, own_move}
-use Rattle.ae_fuse.specs.declared.costs.FusedCosts.{FusedCosts}
+use Rattle.ae_results.specs.declared.costs.FusedCosts.{FusedCosts}
 use Rattle.ae_fuse.specs.Slowdowns.{AreCostsUnder, AreLabels, told_costs}
-use Rattle.ae_fuse.specs.Fused.{FusedView, IsFusedBy, IsFusedOf, IsMovable, outs_of, result_move}
+use Rattle.ae_results.specs.Results.{result_move}
+use Rattle.ae_fuse.specs.Fused.{FusedView, IsFusedBy, IsFusedOf, IsMovable, outs_of}
 use Rattle.ae_fuse.proofs.Labels.{counts}
-use Rattle.ae_fuse.proofs.Certifying.{is-certificate}
+use Rattle.ae_results.proofs.Certifying.{is-certificate}
 use Rattle.ae_fuse.proofs.NodeSteps.{map-along}
 use Rattle.ae_fuse.proofs.Main.{is-main, moves-traced}
 use Rattle.ae_fuse.proofs.Schedule.{item-is-move, items-are, moves-words, words-are}

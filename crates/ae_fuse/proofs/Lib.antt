@@ -10,14 +10,11 @@ pub mod NumberSteps
 pub mod ClockSteps
 pub mod LabelSteps
 pub mod ItemSteps
-pub mod SmallMoves
-pub mod CostSteps
 pub mod Schedule
 pub mod ResultSteps
 pub mod WholeSteps
 pub mod WantedSteps
 pub mod NodeSteps
-pub mod Certifying
 pub mod Fusing
 pub mod Making
 pub mod LateResults

@@ -12,12 +12,12 @@ use Rattle.ae_moves.proofs.Lists.{take_push}
 use Rattle.ae_rewrite.specs.Sound.{item_layout, item_layouts}
 use Rattle.ae_rewrite.specs.StProgramTree.{StFuncTree}
 use Rattle.ae_flow.specs.Flow.{words_at}
-use Rattle.ae_fuse.specs.declared.costs.ResultCosts.{ResultCosts}
-use Rattle.ae_fuse.specs.declared.results.FusedResult.{FusedResult}
+use Rattle.ae_results.specs.declared.costs.ResultCosts.{ResultCosts}
+use Rattle.ae_results.specs.declared.result.FusedResult.{FusedResult}
 use Rattle.ae_fuse.specs.Labels.{labelled_origin}
 use Rattle.ae_fuse.specs.Moved.{own_move}
-use Rattle.ae_fuse.specs.Fused.{AreAllCosts, result_move}
-use Rattle.ae_fuse.specs.Results.{AreCostsOf}
+use Rattle.ae_results.specs.Results.{AreAllCosts, result_move}
+use Rattle.ae_results.specs.Results.{AreCostsOf}
 
 abbrev pub a_move : List StTree → StTree → List OriginTree → Move
 a_move ins out os = record { ins = ins; out = out; origins = os }

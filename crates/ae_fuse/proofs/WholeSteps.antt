@@ -10,10 +10,10 @@ use Rattle.ae_moves.specs.Rings.{rings}
 use Rattle.ae_seq.specs.ProgramTree.{NodeTree}
 use Rattle.ae_delay.specs.declared.own.OwnCosts.{OwnCosts}
 use Rattle.ae_trace.specs.Traces.{are_movements, is_movement_op}
-use Rattle.ae_fuse.specs.declared.costs.ResultCosts.{ResultCosts}
+use Rattle.ae_results.specs.declared.costs.ResultCosts.{ResultCosts}
 use Rattle.ae_fuse.specs.Costing.{fused_costs, moves_latency, result_load, result_mems}
-use Rattle.ae_fuse.specs.Results.{AreCostsOf, AreLight, own_latency, own_load, own_mems}
-use Rattle.ae_fuse.specs.Fused.{AreAllCosts}
+use Rattle.ae_results.specs.Results.{AreCostsOf, AreLight, own_latency, own_load, own_mems}
+use Rattle.ae_results.specs.Results.{AreAllCosts}
 
 -- ---- lines that move words
 

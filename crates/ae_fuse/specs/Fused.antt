@@ -2,9 +2,8 @@
 use Rattle.std.specs.Prelude.{◌≡◌, ◌↔◌, ℕ, ◌-◌, ◌<◌, ◌≤◌, true, List, [], length, map, IfSome, None, Option, Some, slice_get}
 use Rattle.std.specs.List.{range_with_len}
 use Rattle.ae_sttype.specs.declared.st_type.StType.{StType}
-use Rattle.ae_sttype.specs.StTree.{StTree, st_tree}
+use Rattle.ae_sttype.specs.StTree.{StTree}
 use Rattle.ae_moves.specs.Origins.{IsMove, Move, move_latency}
-use Rattle.ae_moves.specs.Trees.{origin_tree}
 use Rattle.ae_seq.specs.ProgramTree.{FuncTree, ProgramTree}
 use Rattle.ae_rewrite.specs.Interface.{main_of}
 use Rattle.ae_rewrite.specs.Sound.{item_layout, item_layouts}
@@ -12,24 +11,14 @@ use Rattle.ae_rewrite.specs.StProgramTree.{StFuncTree, st_trees}
 use Rattle.ae_delay.specs.declared.own.OwnCosts.{OwnCosts}
 use Rattle.ae_trace.specs.Traces.{is_movement}
 use Rattle.ae_trace.specs.Certificates.{IsCertificate}
-use Rattle.ae_fuse.specs.declared.certificate.Certificate.{Certificate}
-use Rattle.ae_fuse.specs.declared.costs.ResultCosts.{ResultCosts}
-use Rattle.ae_fuse.specs.declared.results.FusedResult.{FusedResult}
+use Rattle.ae_results.specs.declared.certificate.Certificate.{Certificate}
+use Rattle.ae_results.specs.declared.result.FusedResult.{FusedResult}
 use Rattle.ae_flow.specs.Flow.{item_words}
-use Rattle.ae_fuse.specs.Certified.{IsFirstOf, certificate_tree}
+use Rattle.ae_results.specs.Certified.{IsFirstOf, certificate_tree}
 use Rattle.ae_fuse.specs.Costing.{fused_costing, fused_costs, result_moves}
 use Rattle.ae_fuse.specs.Labels.{MovesWords, layout_numbers}
 use Rattle.ae_fuse.specs.Moved.{own_move}
-use Rattle.ae_fuse.specs.Results.{AreCostsOf}
-
--- the move of a result from all parameters
-abbrev pub result_move : (ins : List StTree) → FusedResult → Move
-result_move ins r = record { ins = ins; out = st_tree r.out; origins = map origin_tree r.source.items }
-
--- the costs of each move
-pub record AreAllCosts (ms : List Move) (cs : List ResultCosts) : Type 0 where
-  pub long : length cs ≡ length ms
-  pub each : (k : ℕ) (m : Move) (c : ResultCosts) → slice_get ms k ≡ Some m → slice_get cs k ≡ Some c → AreCostsOf m c
+use Rattle.ae_results.specs.Results.{result_move}
 
 -- what contracts see of a fused program
 pub record FusedView : Type 0 where

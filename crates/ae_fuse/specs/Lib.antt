@@ -2,9 +2,7 @@ pub mod Costing
 pub mod Labels
 pub mod Wanted
 pub mod Clocks
-pub mod Results
 pub mod Moved
-pub mod Certified
 pub mod Fused
 pub mod Slowdowns
 pub mod Lowered

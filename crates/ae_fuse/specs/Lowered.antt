@@ -21,9 +21,10 @@ use Rattle.ae_ports.specs.Ports.{columns_in, input_waves, streams_of}
 use Rattle.ae_ports.specs.CircuitFor.{IsCircuitFor}
 use Rattle.ae_lower.specs.Parts.{plain_part}
 use Rattle.ae_trace.specs.Traces.{is_movement, trace, traced_move}
-use Rattle.ae_fuse.specs.declared.results.FusedResult.{FusedResult}
+use Rattle.ae_results.specs.declared.result.FusedResult.{FusedResult}
 use Rattle.ae_fuse.specs.Costing.{fused_costs}
-use Rattle.ae_fuse.specs.Fused.{FusedView, IsFusedOf, costs_in, moves_in, result_move}
+use Rattle.ae_results.specs.Results.{result_move}
+use Rattle.ae_fuse.specs.Fused.{FusedView, IsFusedOf, costs_in, moves_in}
 
 -- ---- what is sure of every fused program
 

@@ -10,7 +10,7 @@ use Rattle.ae_rewrite.specs.StProgramTree.{StFuncTree}
 use Rattle.ae_flow.specs.Flow.{words_at}
 use Rattle.ae_delay.specs.declared.own.OwnCosts.{OwnCosts}
 use Rattle.ae_trace.specs.Traces.{is_movement, numbered}
-use Rattle.ae_fuse.specs.declared.costs.FusedCosts.{FusedCosts}
+use Rattle.ae_results.specs.declared.costs.FusedCosts.{FusedCosts}
 use Rattle.ae_fuse.specs.Costing.{fused_costing}
 use Rattle.ae_fuse.specs.Fused.{IsMovable}
 

@@ -10,10 +10,10 @@ ghost use Rattle.ae_fuse.specs.Fused.{IsMovable};
 ghost use Rattle.ae_fuse.specs.Moved.{HaveResults, own_labels, own_move};
 ghost use Rattle.ae_fuse.specs.Slowdowns.{AreCostsUnder, AreLabels, told_costs};
 
-use crate::costs::FusedCosts;
 use crate::results::{result_moves, together};
 use crate::tracing::traced;
 use crate::whole::movable_instance;
+use ae_results::FusedCosts;
 use ae_rewrite::{StFunc, StProgram};
 use ae_seq::Typed;
 use std::alloc::{AllocError, Global};

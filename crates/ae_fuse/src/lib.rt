@@ -1,9 +1,7 @@
 //! Movement programs as one move for each result.
 #![tactic(auto)]
 
-mod certificate;
 mod clocks;
-mod costs;
 mod kept;
 mod labelling;
 mod laws;
@@ -14,8 +12,7 @@ mod tracing;
 mod wanted;
 mod whole;
 
-pub use certificate::Certificate;
-pub use costs::FusedCosts;
+pub use ae_results::{Certificate, FusedCosts};
 pub use kept::{WordLabels, labels_of};
 pub use laws::{
     labels_are_traced, latency_is_least, moves_make_blocks, traced_moves, traced_words,

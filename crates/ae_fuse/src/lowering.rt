@@ -14,18 +14,19 @@ ghost use Rattle.ae_ports.specs.Ports.{output_ports, streams_of};
 ghost use Rattle.ae_tidy.specs.Places.{AreMarks};
 ghost use Rattle.ae_lower.specs.Growth.{Adds, GrowsBy};
 ghost use Rattle.ae_lower.specs.PortNets.{AddsOutputs};
-ghost use Rattle.ae_fuse.specs.declared.results.FusedResult.{FusedResult as Moving};
+ghost use Rattle.ae_results.specs.declared.result.FusedResult.{FusedResult as Moving};
 ghost use Rattle.ae_fuse.specs.Costing.{result_load, result_mems};
-ghost use Rattle.ae_fuse.specs.Fused.{result_move};
+ghost use Rattle.ae_results.specs.Results.{result_move};
 ghost use Rattle.ae_fuse.specs.Lowered.{AreLateResults, IsLateResult, result_stream};
 
-use crate::results::{FusedResult, copies};
+use crate::results::copies;
 use ae_clocked::Clocks;
 use ae_gather::Gather;
 use ae_lower::{add_outputs, later};
 use ae_moves::Origin;
 use ae_netlist::{Netlist, in_room};
 use ae_ops::{Bundle, Stage};
+use ae_results::FusedResult;
 use ae_sttype::StType;
 use std::alloc::{AllocError, Global};
 

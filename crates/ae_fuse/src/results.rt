@@ -8,33 +8,27 @@ ghost use Rattle.ae_sttype.specs.Size.{IsInSize};
 ghost use Rattle.ae_moves.specs.Origins.{IsMove, move_latency};
 ghost use Rattle.ae_rewrite.specs.StProgramTree.{st_func_tree, st_trees};
 ghost use Rattle.ae_rewrite.specs.Sound.{item_layouts};
-ghost use Rattle.ae_fuse.specs.declared.results.FusedResult.{FusedResult as Moving};
+ghost use Rattle.ae_results.specs.declared.result.FusedResult.{FusedResult as Moving};
 ghost use Rattle.ae_flow.specs.Flow.{layout_words};
 ghost use Rattle.ae_fuse.specs.Labels.{MovesWords, labelled_origin};
 ghost use Rattle.ae_fuse.specs.Clocks.{label_clocks};
 ghost use Rattle.ae_fuse.specs.Moved.{own_move};
 ghost use Rattle.ae_fuse.specs.Costing.{fused_costs};
-ghost use Rattle.ae_fuse.specs.Fused.{AreAllCosts, result_move};
+ghost use Rattle.ae_results.specs.Results.{AreAllCosts, result_move};
 ghost use Rattle.ae_fuse.specs.Slowdowns.{told_costs};
 
 use crate::clocks::{element_clocks, label_clocks, lateness};
-use crate::costs::{
-    FusedCosts, ResultCosts, all_columns, latest_result, result_costs, whole_load, whole_mems,
-};
 use crate::labelling::labels_at;
 use crate::numbers::label_origins;
 use ae_delay::layout;
 use ae_moves::Origin;
+use ae_results::{
+    FusedCosts, FusedResult, ResultCosts, all_columns, latest_result, result_costs, whole_load,
+    whole_mems,
+};
 use ae_rewrite::StFunc;
 use ae_sttype::StType;
 use std::alloc::{AllocError, Global};
-
-/// One result: its layout, and where each of its words comes from.
-#[derive(Drop)]
-pub(crate) struct FusedResult {
-    pub out: StType,
-    pub source: Vec<Origin>,
-}
 
 /// When an item in this layout with these labels could arrive, by the clocks of the numbers of all words.
 pub(crate) fn item_arrival(

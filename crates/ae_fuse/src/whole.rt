@@ -13,14 +13,14 @@ ghost use Rattle.ae_fuse.specs.Fused.{IsFusedBy, IsFusedOf, IsMovable};
 ghost use Rattle.ae_fuse.specs.Slowdowns.{IsMovableMain};
 ghost use Rattle.ae_fuse.specs.Lowered.{IsFusedCircuit};
 
-use crate::certificate::{Certificate, certify};
 use crate::lowering::{all_nets, show_results};
-use crate::results::{FusedResult, copies, result_moves, together};
+use crate::results::{copies, result_moves, together};
 use crate::tracing::traced;
 use ae_clocked::Clocks;
 use ae_flow::schedules_fit;
 use ae_lower::{Lowered, MOST_CELLS, add_input, add_inputs};
 use ae_netlist::{Netlist, Port};
+use ae_results::{Certificate, FusedResult, certify};
 use ae_rewrite::{StFunc, StProgram};
 use ae_seq::{Func, Node, Typed};
 use ae_sttype::StType;

@@ -14,8 +14,8 @@ use Rattle.ae_delay.specs.declared.own.OwnCosts.{OwnCosts}
 use Rattle.ae_lower.proofs.Programs.{layouts}
 use Rattle.ae_trace.specs.Certificates.{IsCertificate}
 use Rattle.ae_trace.specs.Traces.{least}
-use Rattle.ae_fuse.specs.declared.certificate.Certificate.{Certificate}
-use Rattle.ae_fuse.specs.Certified.{certificate_tree}
+use Rattle.ae_results.specs.declared.certificate.Certificate.{Certificate}
+use Rattle.ae_results.specs.Certified.{certificate_tree}
 use Rattle.ae_fuse.specs.Fused.{FusedView, IsFusedOf, outs_of}
 use Rattle.ae_fuse.specs.Laws.{LatencyIsLeast}
 use Rattle.ae_least.specs.LeastTexts.{latency_line, shown_lines, IsLeastText, HasCertificateLine}

@@ -9,7 +9,7 @@ ghost use Rattle.ae_rewrite.specs.Scheduled.{IsSchedule};
 ghost use Rattle.ae_rewrite.specs.Sound.{IsSound};
 ghost use Rattle.ae_rewrite.specs.StProgramTree.{st_func_trees};
 ghost use Rattle.ae_trace.specs.Traces.{is_movement};
-ghost use Rattle.ae_fuse.specs.Certified.{certificate_tree};
+ghost use Rattle.ae_results.specs.Certified.{certificate_tree};
 ghost use Rattle.ae_fuse.specs.Fused.{IsFusedOf};
 ghost use Rattle.ae_least.specs.LeastTexts.{certificate_line, latency_line, shown_lines, IsLeastFault, IsLeastText};
 

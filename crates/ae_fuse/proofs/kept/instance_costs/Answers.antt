@@ -3,10 +3,10 @@ use Rattle.std.proofs.lemmas.List.{length-map}
 use Rattle.std.proofs.lemmas.Result.{IfOk-weaker}
 use Rattle.ae_rewrite.specs.StProgramTree.{st_func_tree, st_trees}
 use Rattle.ae_fuse.specs.Costing.{fused_costs}
-use Rattle.ae_fuse.specs.Fused.{result_move}
+use Rattle.ae_results.specs.Results.{result_move}
 use Rattle.ae_fuse.specs.Moved.{own_labels, own_move}
 use Rattle.ae_fuse.specs.Slowdowns.{told_costs}
-use Rattle.ae_fuse.specs.declared.costs.FusedCosts.{FusedCosts}
+use Rattle.ae_results.specs.declared.costs.FusedCosts.{FusedCosts}
 use Rattle.ae_fuse.proofs.Fusing.{agree, few-at, many-at, moves-at, result-at, sized-at}
 use Rattle.ae_fuse.proofs.kept.instance_costs.Goals as goal
 

@@ -16,7 +16,7 @@ use Rattle.ae_lower.proofs.Stretches.{extends_long}
 use Rattle.ae_lower.specs.Growth.{Adds, GrowsBy}
 use Rattle.ae_gather.specs.Gathers.{move_of}
 use Rattle.ae_fuse.specs.Costing.{result_load, result_mems}
-use Rattle.ae_fuse.specs.Fused.{result_move}
+use Rattle.ae_results.specs.Results.{result_move}
 use Rattle.ae_fuse.specs.Lowered.{IsLateResult}
 use Rattle.ae_fuse.proofs.LateResults.{load_next, mems_next, results_next}
 use Rattle.ae_fuse.proofs.lowering.all_nets.Goals as goal

@@ -4,7 +4,7 @@ use Rattle.ae_rewrite.specs.StProgramTree.{st_trees}
 use Rattle.ae_tidy.specs.Places.{AreMarks}
 use Rattle.ae_lower.specs.Growth.{Adds, GrowsBy}
 use Rattle.ae_fuse.specs.Costing.{result_load, result_mems}
-use Rattle.ae_fuse.specs.Fused.{result_move}
+use Rattle.ae_results.specs.Results.{result_move}
 use Rattle.ae_fuse.specs.Lowered.{AreLateResults}
 use Rattle.ae_fuse.proofs.lowering.all_nets.Given as goal
 

@@ -10,7 +10,7 @@ use Rattle.ae_ops.specs.Blocks.{stream_widths}
 use Rattle.ae_ports.specs.Ports.{output_ports}
 use Rattle.ae_lower.specs.PortNets.{AddsOutputs}
 use Rattle.ae_lower.proofs.Outputs.{all_nets, outputs_cells, outputs_count, result_few, results_more}
-use Rattle.ae_fuse.specs.declared.results.FusedResult.{FusedResult}
+use Rattle.ae_results.specs.declared.result.FusedResult.{FusedResult}
 use Rattle.ae_fuse.specs.Lowered.{result_stream}
 use Rattle.ae_fuse.proofs.lowering.show_results.Goals as goal
 

@@ -7,8 +7,8 @@ use Rattle.ae_moves.specs.Trees.{origin_tree}
 use Rattle.ae_moves.specs.Origins.{IsMove, Move}
 use Rattle.ae_moves.proofs.Lists.{get_mapped}
 use Rattle.ae_rewrite.specs.StProgramTree.{st_trees}
-use Rattle.ae_fuse.specs.Results.{AreCostsOf}
-use Rattle.ae_fuse.specs.Fused.{AreAllCosts, result_move}
+use Rattle.ae_results.specs.Results.{AreCostsOf}
+use Rattle.ae_results.specs.Results.{AreAllCosts, result_move}
 use Rattle.ae_fuse.proofs.ResultSteps.{a_move, costs-next, costs-none}
 use Rattle.ae_fuse.proofs.results.all_costs.Goals as goal
 

@@ -4,9 +4,9 @@ use Rattle.ae_sttype.specs.declared.st_type.StType.{StType}
 use Rattle.ae_sttype.specs.StTree.{st_tree}
 use Rattle.ae_moves.specs.Trees.{origin_tree}
 use Rattle.ae_rewrite.specs.StProgramTree.{st_func_tree, st_trees}
-use Rattle.ae_fuse.specs.declared.results.FusedResult.{FusedResult}
+use Rattle.ae_results.specs.declared.result.FusedResult.{FusedResult}
 use Rattle.ae_fuse.specs.Moved.{own_move}
-use Rattle.ae_fuse.specs.Fused.{result_move}
+use Rattle.ae_results.specs.Results.{result_move}
 use Rattle.ae_fuse.proofs.ItemSteps.{input-sized}
 use Rattle.ae_fuse.proofs.ResultSteps.{a_move, moves-next, own-is}
 use Rattle.ae_fuse.proofs.results.result_moves.Goals as goal

@@ -1,7 +1,7 @@
 use Rattle.std.proofs.Common.{◌≡◌, ◌≤◌, map, take}
 use Rattle.ae_rewrite.specs.StProgramTree.{st_func_tree}
 use Rattle.ae_fuse.specs.Moved.{own_move}
-use Rattle.ae_fuse.specs.Fused.{result_move}
+use Rattle.ae_results.specs.Results.{result_move}
 use Rattle.ae_fuse.proofs.results.result_moves.Given as goal
 
 abbrev pub invariant-loop-r : goal.invariant-loop-r

@@ -4,8 +4,8 @@ use Rattle.ae_moves.specs.Origins.{Move}
 use Rattle.ae_rewrite.specs.StProgramTree.{st_trees}
 use Rattle.ae_sttype.specs.Moves.{greatest}
 use Rattle.ae_fuse.specs.Costing.{moves_latency, result_load, result_mems}
-use Rattle.ae_fuse.specs.Results.{AreLight, own_latency, own_load, own_mems}
-use Rattle.ae_fuse.specs.Fused.{result_move}
+use Rattle.ae_results.specs.Results.{AreLight, own_latency, own_load, own_mems}
+use Rattle.ae_results.specs.Results.{result_move}
 use Rattle.ae_fuse.proofs.WholeSteps.{all-light, latency-same, latest-few, load-same, mems-same, own-costs}
 use Rattle.ae_fuse.proofs.results.together.Goals as goal
 

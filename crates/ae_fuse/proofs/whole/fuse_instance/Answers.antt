@@ -3,9 +3,9 @@ use Rattle.std.proofs.lemmas.List.{length-map}
 use Rattle.ae_delay.specs.declared.own.OwnCosts.{OwnCosts}
 use Rattle.ae_moves.specs.Origins.{Move}
 use Rattle.ae_rewrite.specs.StProgramTree.{st_func_tree, st_trees}
-use Rattle.ae_fuse.specs.Certified.{IsFirstOf}
+use Rattle.ae_results.specs.Certified.{IsFirstOf}
 use Rattle.ae_fuse.specs.Costing.{fused_costs, moves_latency}
-use Rattle.ae_fuse.specs.Fused.{result_move}
+use Rattle.ae_results.specs.Results.{result_move}
 use Rattle.ae_fuse.proofs.Fusing.{few-at, made-by, many-at, moves-at, result-at, sized-at}
 use Rattle.ae_fuse.proofs.whole.fuse_instance.Goals as goal
 

@@ -5,7 +5,7 @@ use Rattle.ae_rewrite.specs.StProgramTree.{st_func_tree, st_func_trees}
 use Rattle.ae_fuse.specs.Costing.{fused_costs}
 use Rattle.ae_fuse.specs.Moved.{HaveResults, own_labels, own_move}
 use Rattle.ae_fuse.specs.Slowdowns.{AreCostsUnder, told_costs}
-use Rattle.ae_fuse.specs.declared.costs.FusedCosts.{FusedCosts}
+use Rattle.ae_results.specs.declared.costs.FusedCosts.{FusedCosts}
 use Rattle.ae_fuse.proofs.Fusing.{costs-under, have-results}
 use Rattle.ae_fuse.proofs.kept.WordLabels.costs.Goals as goal
 

@@ -16,9 +16,10 @@ use Rattle.ae_lower.specs.PortNets.{AddsOutputs, bundles_from}
 use Rattle.ae_lower.specs.Ported.{HasBegun}
 use Rattle.ae_lower.proofs.Outputs.{all_nets, outputs_cells}
 use Rattle.ae_lower.proofs.Whole.{begun_bundles, has_begun, inputs_begun, reset_belongs}
-use Rattle.ae_fuse.specs.declared.results.FusedResult.{FusedResult}
+use Rattle.ae_results.specs.declared.result.FusedResult.{FusedResult}
 use Rattle.ae_fuse.specs.Costing.{result_load, result_mems}
-use Rattle.ae_fuse.specs.Fused.{FusedView, moves_in, result_move}
+use Rattle.ae_results.specs.Results.{result_move}
+use Rattle.ae_fuse.specs.Fused.{FusedView, moves_in}
 use Rattle.ae_fuse.specs.Lowered.{AreLateResults, IsWhole, result_stream}
 use Rattle.ae_fuse.proofs.Circuits.{ShowsMoves, at-most-latest, fused-circuit, late-same, shows-raw, shows-tidied, type-sized, whole-load}
 use Rattle.ae_fuse.proofs.whole.Fused.lower.Goals as goal

@@ -1,0 +1,3 @@
+pub mod SmallMoves
+pub mod CostSteps
+pub mod Certifying
