@@ -1,4 +1,4 @@
-"""Tells which functions of a crate are dear to prove, after a check that proved it (`rt check` in the crate's folder, or `./build`).
+"""Tells which functions of a crate are dear to prove, after a check that proved it (`rt check` in the crate's folder).
 
     bench/dear.py [CRATE..]
 
