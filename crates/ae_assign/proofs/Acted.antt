@@ -4,7 +4,7 @@ use Rattle.ae_word.specs.WordTable.{bit}
 use Rattle.ae_netlist.specs.declared.cell.NetId.{NetId}
 use Rattle.ae_netlist.specs.Circuit.{Circuit}
 use Rattle.ae_netlist.specs.Runs.{Clock}
-use Rattle.ae_vread.specs.ModuleTree.{ExprTree, StmtTree, when, either, block_end, NetTree}
+use Rattle.ae_vmodule.specs.ModuleTree.{ExprTree, StmtTree, when, either, block_end, NetTree}
 use Rattle.ae_judge.specs.Names.{stmt_targets}
 use Rattle.ae_judge.specs.Weight.{expr_weight, stmt_weight}
 use Rattle.ae_runs.specs.Values.{own_value}

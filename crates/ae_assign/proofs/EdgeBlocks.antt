@@ -3,7 +3,7 @@ use Rattle.std.proofs.Common.{ℕ, ◌≡◌, ◌+◌, ◌*◌, ◌<◌, ◌≤�
 use Rattle.ae_netlist.specs.declared.cell.NetId.{NetId}
 use Rattle.ae_netlist.specs.Circuit.{Circuit}
 use Rattle.ae_netlist.specs.Runs.{Clock, InEveryRunFrom}
-use Rattle.ae_vread.specs.ModuleTree.{StmtTree, block_more, NetTree}
+use Rattle.ae_vmodule.specs.ModuleTree.{StmtTree, block_more, NetTree}
 use Rattle.ae_judge.specs.Names.{Among, stmt_targets}
 use Rattle.ae_judge.specs.Weight.{stmt_weight}
 use Rattle.ae_gates.specs.Cells.{GrowsByGates}

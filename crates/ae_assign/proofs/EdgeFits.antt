@@ -8,9 +8,9 @@ use Rattle.ae_netlist.specs.Circuit.{Circuit, IsNet, IsAddress}
 use Rattle.ae_netlist.specs.Runs.{Clock, word_at, store_at}
 use Rattle.ae_netlist.proofs.Growing.{Keeps, keeps_extends, address_later, written_later}
 use Rattle.ae_netlist.proofs.Gets.{get_left, get_set_other}
-use Rattle.ae_vread.specs.declared.module.NetKind.{NetKind}
-use Rattle.ae_vread.specs.declared.module.NetKind.TheVariants.{Input, Wire, OutWire, Reg, OutReg, Memory}
-use Rattle.ae_vread.specs.ModuleTree.{StmtTree, set, put, when, either, block_end, block_more, NetTree}
+use Rattle.ae_vmodule.specs.declared.module.NetKind.{NetKind}
+use Rattle.ae_vmodule.specs.declared.module.NetKind.TheVariants.{Input, Wire, OutWire, Reg, OutReg, Memory}
+use Rattle.ae_vmodule.specs.ModuleTree.{StmtTree, set, put, when, either, block_end, block_more, NetTree}
 use Rattle.ae_judge.specs.Names.{Among, is_memory_name, is_register_name, is_register_kind, is_memory_kind, depth_of, depth_of_kind, depth_in, passes}
 use Rattle.ae_judge.specs.Widths.{declared_width}
 use Rattle.ae_judge.specs.Weight.{stmt_weight}

@@ -10,7 +10,7 @@ use Rattle.ae_netlist.specs.declared.cell.NetId.{NetId}
 use Rattle.ae_netlist.specs.declared.cell.SizedCell.{SizedCell}
 use Rattle.ae_netlist.specs.Circuit.{Circuit}
 use Rattle.ae_netlist.specs.Runs.{Clock, word_at, store_at}
-use Rattle.ae_vread.specs.ModuleTree.{ExprTree, StmtTree, set, put, when, either, NetTree}
+use Rattle.ae_vmodule.specs.ModuleTree.{ExprTree, StmtTree, set, put, when, either, NetTree}
 use Rattle.ae_runs.specs.Values.{ModuleClock, own_value, assigned, with_word, with_stored}
 use Rattle.ae_gates.specs.Cells.{GrowsByGates, IsWord}
 use Rattle.ae_runs.specs.Named.{IsNamed, place_of, read, AreNamed}

@@ -6,9 +6,9 @@ use Rattle.ae_netlist.specs.declared.cell.SizedCell.{SizedCell}
 use Rattle.ae_netlist.specs.declared.cell.Cell.TheVariants.{Reg, Mem}
 use Rattle.ae_netlist.specs.Circuit.{Circuit, IsConstantBelow, IsNet, IsWritten, new_memory}
 use Rattle.ae_netlist.specs.Runs.{Clock, word_at, store_at, InEveryRunFrom}
-use Rattle.ae_vread.specs.declared.module.NetKind.{NetKind}
-use Rattle.ae_vread.specs.declared.module.NetKind.TheVariants.{Input, Wire, OutWire, Reg as RegName, OutReg, Memory}
-use Rattle.ae_vread.specs.ModuleTree.{StmtTree, set, put, when, either, block_end, block_more, index, NetTree, ItemTree, nets, assigns, always}
+use Rattle.ae_vmodule.specs.declared.module.NetKind.{NetKind}
+use Rattle.ae_vmodule.specs.declared.module.NetKind.TheVariants.{Input, Wire, OutWire, Reg as RegName, OutReg, Memory}
+use Rattle.ae_vmodule.specs.ModuleTree.{StmtTree, set, put, when, either, block_end, block_more, index, NetTree, ItemTree, nets, assigns, always}
 use Rattle.ae_judge.specs.Names.{Among, is_memory_name, is_register_name, is_register_kind, stmt_targets}
 use Rattle.ae_runs.specs.Values.{ModuleClock}
 use Rattle.ae_judge.specs.Weight.{stmt_weight}

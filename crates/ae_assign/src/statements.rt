@@ -4,9 +4,9 @@ ghost use Rattle.std.specs.Prelude.{◌≡◌, ◌<◌, ◌≤◌, ◌+◌, ◌*
 ghost use Rattle.ae_word.specs.WordTable.{bit};
 ghost use Rattle.ae_netlist.specs.Circuit.{IsAddress, IsNet};
 ghost use Rattle.ae_netlist.specs.Runs.{Clock};
-ghost use Rattle.ae_vread.specs.ModuleTree.{block_more, index as index_tree, put as put_tree, set as set_tree};
-ghost use Rattle.ae_vread.specs.Roots.{numbered, numbered_stmt};
-ghost use Rattle.ae_vread.specs.View.{expr_tree, stmt_tree, word_at};
+ghost use Rattle.ae_vmodule.specs.ModuleTree.{block_more, index as index_tree, put as put_tree, set as set_tree};
+ghost use Rattle.ae_vmodule.specs.Roots.{numbered, numbered_stmt};
+ghost use Rattle.ae_vmodule.specs.View.{expr_tree, stmt_tree, word_at};
 ghost use Rattle.ae_judge.specs.Names.{depth_of, is_memory_name, stmt_targets};
 ghost use Rattle.ae_judge.specs.Weight.{expr_weight, stmt_weight};
 ghost use Rattle.ae_runs.specs.Values.{own_value};
@@ -20,7 +20,7 @@ use ae_gates::{fixed, gate, is_zero, select};
 use ae_judge::Names;
 use ae_netlist::{NetId, Netlist};
 use ae_order::{place_number, place_of};
-use ae_vread::{Expr, Stmt, StmtRoot};
+use ae_vmodule::{Expr, Stmt, StmtRoot};
 use ae_word::WordOp;
 use std::alloc::AllocError;
 

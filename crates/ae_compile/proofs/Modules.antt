@@ -9,7 +9,7 @@ use Rattle.ae_rewrite.specs.StProgramTree.{StFuncTree}
 use Rattle.ae_rewrite.specs.Sound.{IsSound, item_layout, item_layouts}
 use Rattle.ae_delay.proofs.Instances.{all_items}
 use Rattle.ae_netlist.specs.Circuit.{Circuit}
-use Rattle.ae_vread.specs.ModuleTree.{ModuleTree}
+use Rattle.ae_vmodule.specs.ModuleTree.{ModuleTree}
 use Rattle.ae_vread.specs.Spells.{Spells}
 use Rattle.ae_judge.specs.Faults.{IsWellFormed}
 use Rattle.ae_runs.specs.Runs.{HasOneModuleRun}

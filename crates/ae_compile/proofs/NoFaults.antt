@@ -1,6 +1,6 @@
 -- Where a module is well formed, or a text spells one, nothing is wrong but that memory ran out.
 use Rattle.std.proofs.Common.{◌≡◌, Err, refl, arith}
-use Rattle.ae_vread.specs.ModuleTree.{ModuleTree}
+use Rattle.ae_vmodule.specs.ModuleTree.{ModuleTree}
 use Rattle.ae_vread.specs.Refusals.{GivesModule}
 use Rattle.ae_vread.specs.declared.reader.VFault.{VFault}
 use Rattle.ae_vread.specs.declared.reader.VFault.TheVariants as v

@@ -8,7 +8,7 @@ use Rattle.ae_rewrite.specs.StProgramTree.{StFuncTree}
 use Rattle.ae_netlist.specs.Circuit.{Circuit}
 use Rattle.ae_netlist.specs.Rows.{AreFirsts, AreInputs, HasOneRunWith, IsRunWith, filled}
 use Rattle.ae_netlist.specs.Runs.{Clock}
-use Rattle.ae_vread.specs.ModuleTree.{ModuleTree}
+use Rattle.ae_vmodule.specs.ModuleTree.{ModuleTree}
 use Rattle.ae_runs.specs.Runs.{clock_at}
 use Rattle.ae_runs.specs.SameRuns.{HasSameRuns, input_words, output_words}
 use Rattle.ae_verilog.specs.NetlistModule.{netlist_module}

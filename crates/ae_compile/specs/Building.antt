@@ -3,7 +3,7 @@ use Rattle.std.specs.Prelude.{◌≡◌, ℕ, ◌+◌, ◌-◌, ◌*◌, ◌^◌
 use Rattle.std.specs.List.{list_all}
 use Rattle.ae_netlist.specs.Circuit.{Circuit}
 use Rattle.ae_netlist.specs.Counts.{count_of, is_mul}
-use Rattle.ae_vread.specs.ModuleTree.{ModuleTree}
+use Rattle.ae_vmodule.specs.ModuleTree.{ModuleTree}
 use Rattle.ae_vread.specs.Spells.{Spells, stars}
 use Rattle.ae_judge.specs.Faults.{IsWellFormed}
 use Rattle.ae_runs.specs.Runs.{HasOneModuleRun}

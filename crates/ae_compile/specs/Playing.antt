@@ -8,7 +8,7 @@ use Rattle.ae_eval.specs.Lines.{input_types}
 use Rattle.ae_rewrite.specs.Interface.{AreValues}
 use Rattle.ae_netlist.specs.Circuit.{Circuit}
 use Rattle.ae_netlist.specs.Rows.{AreInputs}
-use Rattle.ae_vread.specs.ModuleTree.{ModuleTree}
+use Rattle.ae_vmodule.specs.ModuleTree.{ModuleTree}
 use Rattle.ae_play.specs.Fed.{blocks_of, fed_rows}
 use Rattle.ae_play.specs.Fits.{FitBlocks}
 use Rattle.ae_play.specs.Lines.{IsPlayedText}

@@ -1,16 +1,17 @@
 // Reading back the text that was written.
 
 ghost use Rattle.std.specs.Prelude.{◌≡◌, ◌<◌, ◌^◌, List, ℕ, length, IfOk};
-ghost use Rattle.ae_vread.specs.ModuleTree.{ModuleTree};
+ghost use Rattle.ae_vmodule.specs.ModuleTree.{ModuleTree};
 ghost use Rattle.ae_vread.specs.Spells.{Spells};
-ghost use Rattle.ae_vread.specs.View.{module_tree};
+ghost use Rattle.ae_vmodule.specs.View.{module_tree};
 ghost use Rattle.ae_judge.specs.Faults.{IsWellFormed};
 ghost use Rattle.ae_runs.specs.SameRuns.{HasSameRuns};
 
 use crate::faults::OutOfMemory;
 use ae_elab::{ElabFault, elaborate};
 use ae_netlist::Netlist;
-use ae_vread::{VFault, VModule, read};
+use ae_vmodule::VModule;
+use ae_vread::{VFault, read};
 use std::alloc::Global;
 
 // What is left of a module's faults where it has none.

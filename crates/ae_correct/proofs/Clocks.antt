@@ -11,7 +11,7 @@ use Rattle.ae_netlist.specs.declared.cell.SizedCell.{SizedCell}
 use Rattle.ae_netlist.specs.declared.cell.Outlet.{Outlet}
 use Rattle.ae_netlist.specs.Circuit.{Circuit}
 use Rattle.ae_netlist.specs.Runs.{Clock, IsReset, word_at}
-use Rattle.ae_vread.specs.ModuleTree.{NetTree}
+use Rattle.ae_vmodule.specs.ModuleTree.{NetTree}
 use Rattle.ae_runs.specs.Values.{ModuleClock}
 use Rattle.ae_runs.specs.Runs.{clock_at, IsResetRun}
 use Rattle.ae_runs.specs.SameRuns.{BeginAlike, HaveEqualOutputs}

@@ -10,7 +10,7 @@ use Rattle.ae_netlist.specs.Counts.{cells_of, number_of, is_register, is_memory}
 use Rattle.ae_netlist.specs.Runs.{Clock, word_at, store_at}
 use Rattle.ae_netlist.specs.Rows.{BeginsWith, filled}
 use Rattle.ae_netlist.proofs.Counting.{filter_at}
-use Rattle.ae_vread.specs.ModuleTree.{NetTree, ModuleTree}
+use Rattle.ae_vmodule.specs.ModuleTree.{NetTree, ModuleTree}
 use Rattle.ae_runs.specs.Values.{ModuleClock}
 use Rattle.ae_runs.specs.Runs.{clock_at}
 use Rattle.ae_runs.specs.SameRuns.{BeginAlike, HasSameRuns, cell_depth, cell_words, held_words, is_state_cell, kind_depth, net_held_words, state_cells, states_of}

@@ -13,8 +13,8 @@ use Rattle.ae_netlist.specs.declared.cell.Cell.TheVariants.{Input, Const, Op, Re
 use Rattle.ae_netlist.specs.declared.cell.SizedCell.{SizedCell}
 use Rattle.ae_netlist.specs.declared.cell.Outlet.{Outlet}
 use Rattle.ae_netlist.specs.Counts.{count_of, is_input}
-use Rattle.ae_vread.specs.declared.module.NetKind.TheVariants.{Input as InputNet, Wire as WireNet, OutWire as OutWireNet, Reg as RegNet, Memory as MemoryNet}
-use Rattle.ae_vread.specs.ModuleTree.{NetTree, ModuleTree}
+use Rattle.ae_vmodule.specs.declared.module.NetKind.TheVariants.{Input as InputNet, Wire as WireNet, OutWire as OutWireNet, Reg as RegNet, Memory as MemoryNet}
+use Rattle.ae_vmodule.specs.ModuleTree.{NetTree, ModuleTree}
 use Rattle.ae_judge.specs.Names.{is_input_kind, is_output_kind, is_clock}
 use Rattle.ae_runs.specs.SameRuns as same
 use Rattle.ae_verilog.specs.NetlistModule.{IsInputPort, port_name, net_of, number_name, clock_net, input_nets, output_net, declared_nets, declared_from, netlist_module}

@@ -5,7 +5,7 @@ use Rattle.ae_seqtype.specs.ValueTree.{ValueTree}
 use Rattle.ae_sttype.specs.declared.st_type.Slot.{Slot}
 use Rattle.ae_sttype.specs.StTree.{StTree, lanes, element_atom, element_words}
 use Rattle.ae_sttype.specs.Slots.{slots}
-use Rattle.ae_vread.specs.ModuleTree.{NetTree, ModuleTree}
+use Rattle.ae_vmodule.specs.ModuleTree.{NetTree, ModuleTree}
 use Rattle.ae_runs.specs.Values.{ModuleClock}
 use Rattle.ae_runs.specs.Runs.{clock_at, IsResetRun}
 use Rattle.ae_runs.specs.SameRuns.{states_of, kind_depth, held_words, input_words, output_words}

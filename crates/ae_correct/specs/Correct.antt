@@ -10,7 +10,7 @@ use Rattle.ae_seq.specs.ProgramTree.{ProgramTree}
 use Rattle.ae_seq.specs.Meaning.{at, mean}
 use Rattle.ae_rewrite.specs.Interface.{AreValues, HaveLayouts, parameter_types}
 use Rattle.ae_netlist.specs.declared.cell.Port.TheVariants.{In, Out}
-use Rattle.ae_vread.specs.ModuleTree.{NetTree, ModuleTree}
+use Rattle.ae_vmodule.specs.ModuleTree.{NetTree, ModuleTree}
 use Rattle.ae_judge.specs.Names.{is_input_kind, is_output_kind, clock_name}
 use Rattle.ae_runs.specs.Values.{ModuleClock}
 use Rattle.ae_runs.specs.Runs.{clock_at, IsResetRun}

@@ -5,7 +5,7 @@ use Rattle.ae_sttype.specs.StTree.{StTree}
 use Rattle.ae_netlist.specs.Circuit.{Circuit}
 use Rattle.ae_netlist.specs.Rows.{AreFirsts, AreInputs, HasOneRunWith, IsRunWith, filled}
 use Rattle.ae_netlist.specs.Runs.{Clock}
-use Rattle.ae_vread.specs.ModuleTree.{ModuleTree}
+use Rattle.ae_vmodule.specs.ModuleTree.{ModuleTree}
 use Rattle.ae_seq.specs.ProgramTree.{ProgramTree}
 use Rattle.ae_eval.specs.Stack.{IsTyped}
 use Rattle.ae_eval.specs.Lines.{input_types}

@@ -13,9 +13,9 @@ use Rattle.ae_netlist.specs.Circuit.{Circuit, IsNet, new_memory, new_register}
 use Rattle.ae_netlist.specs.Counts.{count_of, is_input}
 use Rattle.ae_netlist.proofs.Gets.{get_left, get_pushed, get_push_cases}
 use Rattle.ae_netlist.proofs.Growing.{extends_append, keeps_extends}
-use Rattle.ae_vread.specs.declared.module.NetKind.{NetKind}
-use Rattle.ae_vread.specs.declared.module.NetKind.TheVariants.{Input, Wire, OutWire, Reg, OutReg, Memory}
-use Rattle.ae_vread.specs.ModuleTree.{NetTree, ModuleTree}
+use Rattle.ae_vmodule.specs.declared.module.NetKind.{NetKind}
+use Rattle.ae_vmodule.specs.declared.module.NetKind.TheVariants.{Input, Wire, OutWire, Reg, OutReg, Memory}
+use Rattle.ae_vmodule.specs.ModuleTree.{NetTree, ModuleTree}
 use Rattle.ae_judge.specs.Names.{is_clock, is_input_kind, is_register_kind}
 use Rattle.ae_runs.specs.SameRuns.{is_input_cell, is_state_cell, cell_depth, input_cells, kind_depth}
 use Rattle.ae_runs.specs.Named.{StandsFor}

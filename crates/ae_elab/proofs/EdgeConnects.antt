@@ -10,9 +10,9 @@ use Rattle.ae_netlist.specs.Circuit.{Circuit, IsNet, IsMemory, IsRegister, IsWri
 use Rattle.ae_netlist.proofs.Growing.{StandsFor, keeps_replaced, register_stands, memory_stands, width_is}
 use Rattle.ae_netlist.proofs.Gets.{get_set_other, get_set_same}
 use Rattle.ae_netlist.proofs.Carried.{carries_trans}
-use Rattle.ae_vread.specs.declared.module.NetKind.{NetKind}
-use Rattle.ae_vread.specs.declared.module.NetKind.TheVariants.{Input, Wire, OutWire, Reg as RegName, OutReg, Memory}
-use Rattle.ae_vread.specs.ModuleTree.{NetTree}
+use Rattle.ae_vmodule.specs.declared.module.NetKind.{NetKind}
+use Rattle.ae_vmodule.specs.declared.module.NetKind.TheVariants.{Input, Wire, OutWire, Reg as RegName, OutReg, Memory}
+use Rattle.ae_vmodule.specs.ModuleTree.{NetTree}
 use Rattle.ae_judge.specs.Names.{is_register_kind, is_memory_kind}
 use Rattle.ae_runs.specs.SameRuns.{is_input_cell, is_state_cell, cell_depth}
 use Rattle.ae_elab.specs.Declaring.{IsUnconnected, is_state}

@@ -6,9 +6,9 @@ use Rattle.ae_netlist.specs.declared.cell.NetId.{NetId}
 use Rattle.ae_netlist.specs.declared.cell.SizedCell.{SizedCell}
 use Rattle.ae_netlist.specs.Circuit.{Circuit}
 use Rattle.ae_netlist.specs.Runs.{Clock, IsRun, Carries}
-use Rattle.ae_vread.specs.declared.module.NetKind.{NetKind}
-use Rattle.ae_vread.specs.declared.module.NetKind.TheVariants.{Input, Wire, OutWire, Reg, OutReg, Memory}
-use Rattle.ae_vread.specs.ModuleTree.{NetTree, ItemTree, nets, assigns, always, ModuleTree}
+use Rattle.ae_vmodule.specs.declared.module.NetKind.{NetKind}
+use Rattle.ae_vmodule.specs.declared.module.NetKind.TheVariants.{Input, Wire, OutWire, Reg, OutReg, Memory}
+use Rattle.ae_vmodule.specs.ModuleTree.{NetTree, ItemTree, nets, assigns, always, ModuleTree}
 use Rattle.ae_judge.specs.Names.{Among, is_memory_name, is_memory_kind, is_register_kind, item_targets, net_named, passes}
 use Rattle.ae_runs.specs.Runs.{after_items, next_clock}
 use Rattle.ae_judge.specs.Faults.{IsRepeated, may_repeat}

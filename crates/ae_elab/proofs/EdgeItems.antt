@@ -5,7 +5,7 @@ use Rattle.ae_netlist.specs.declared.cell.NetId.{NetId}
 use Rattle.ae_netlist.specs.declared.cell.SizedCell.{SizedCell}
 use Rattle.ae_netlist.specs.Circuit.{Circuit}
 use Rattle.ae_netlist.specs.Runs.{Clock, IsRun, Carries}
-use Rattle.ae_vread.specs.ModuleTree.{StmtTree, NetTree, ItemTree, always}
+use Rattle.ae_vmodule.specs.ModuleTree.{StmtTree, NetTree, ItemTree, always}
 use Rattle.ae_judge.specs.Names.{item_targets}
 use Rattle.ae_runs.specs.Runs.{after_items}
 use Rattle.ae_gates.specs.Cells.{GrowsByGates}

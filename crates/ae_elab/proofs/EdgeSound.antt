@@ -4,9 +4,9 @@ use Rattle.std.specs.Prelude.{nat_lt}
 use Rattle.std.specs.List.{AllByRecursion}
 use Rattle.std.proofs.lemmas.Bool.{cases_Bool, or_parts, both_ways, false_from_ne_true}
 use Rattle.ae_netlist.specs.declared.cell.NetId.{NetId}
-use Rattle.ae_vread.specs.declared.module.NetKind.{NetKind}
-use Rattle.ae_vread.specs.declared.module.NetKind.TheVariants.{Input, Wire, OutWire, Reg, OutReg, Memory}
-use Rattle.ae_vread.specs.ModuleTree.{ExprTree, index, StmtTree, set, put, when, either, block_end, block_more, NetTree, ItemTree, nets, assigns, always, ModuleTree}
+use Rattle.ae_vmodule.specs.declared.module.NetKind.{NetKind}
+use Rattle.ae_vmodule.specs.declared.module.NetKind.TheVariants.{Input, Wire, OutWire, Reg, OutReg, Memory}
+use Rattle.ae_vmodule.specs.ModuleTree.{ExprTree, index, StmtTree, set, put, when, either, block_end, block_more, NetTree, ItemTree, nets, assigns, always, ModuleTree}
 use Rattle.ae_judge.specs.Names.{Among, is_input_kind, is_memory_name, is_memory_kind, is_register_name, is_register_kind, is_clock, depth_of, names_in, passes, stmt_reads, stmt_targets}
 use Rattle.ae_judge.specs.Widths.{declared_width, own_width}
 use Rattle.ae_judge.specs.Faults.{NetAt, is_place, is_misused, is_misused_in_stmt, is_outside, is_outside_of, is_too_wide, is_too_wide_in_stmt, is_too_wide_in_item}

@@ -7,9 +7,9 @@ use Rattle.ae_netlist.specs.declared.cell.Cell.TheVariants.{Reg, Mem}
 use Rattle.ae_netlist.specs.declared.cell.SizedCell.{SizedCell}
 use Rattle.ae_netlist.specs.Circuit.{Circuit, IsNet, IsPlain}
 use Rattle.ae_netlist.specs.Runs.{Clock, IsRun, Carries, word_at, store_at}
-use Rattle.ae_vread.specs.declared.module.NetKind.{NetKind}
-use Rattle.ae_vread.specs.declared.module.NetKind.TheVariants.{Input, Wire, OutWire, Reg as RegName, OutReg, Memory}
-use Rattle.ae_vread.specs.ModuleTree.{NetTree, ModuleTree}
+use Rattle.ae_vmodule.specs.declared.module.NetKind.{NetKind}
+use Rattle.ae_vmodule.specs.declared.module.NetKind.TheVariants.{Input, Wire, OutWire, Reg as RegName, OutReg, Memory}
+use Rattle.ae_vmodule.specs.ModuleTree.{NetTree, ModuleTree}
 use Rattle.ae_judge.specs.Names.{Among, is_clock, is_input_kind}
 use Rattle.ae_runs.specs.Values.{ModuleClock}
 use Rattle.ae_runs.specs.Runs.{StepsTo, IsStep, next_clock}

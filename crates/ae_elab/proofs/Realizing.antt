@@ -9,9 +9,9 @@ use Rattle.ae_netlist.specs.declared.cell.SizedCell.{SizedCell}
 use Rattle.ae_netlist.specs.declared.cell.Outlet.{Outlet}
 use Rattle.ae_netlist.specs.Circuit.{Circuit, Extends}
 use Rattle.ae_netlist.specs.Runs.{Clock, IsRun, Carries, word_at}
-use Rattle.ae_vread.specs.declared.module.NetKind.{NetKind}
-use Rattle.ae_vread.specs.declared.module.NetKind.TheVariants.{Input, Wire, OutWire, Reg, OutReg, Memory}
-use Rattle.ae_vread.specs.ModuleTree.{NetTree, DriveTree, ModuleTree}
+use Rattle.ae_vmodule.specs.declared.module.NetKind.{NetKind}
+use Rattle.ae_vmodule.specs.declared.module.NetKind.TheVariants.{Input, Wire, OutWire, Reg, OutReg, Memory}
+use Rattle.ae_vmodule.specs.ModuleTree.{NetTree, DriveTree, ModuleTree}
 use Rattle.ae_judge.specs.Names.{Among, equations, is_memory_kind, is_register_kind, net_named}
 use Rattle.ae_judge.specs.Widths.{declared_width}
 use Rattle.ae_runs.specs.Values.{assigned}

@@ -8,9 +8,9 @@ use Rattle.ae_netlist.specs.declared.cell.SizedCell.{SizedCell}
 use Rattle.ae_netlist.specs.declared.cell.Outlet.{Outlet}
 use Rattle.ae_netlist.specs.Circuit.{IsNet, width_of}
 use Rattle.ae_netlist.proofs.Gets.{get_push_cases}
-use Rattle.ae_vread.specs.declared.module.NetKind.{NetKind}
-use Rattle.ae_vread.specs.declared.module.NetKind.TheVariants.{Input, Wire, OutWire, Reg, OutReg, Memory}
-use Rattle.ae_vread.specs.ModuleTree.{NetTree}
+use Rattle.ae_vmodule.specs.declared.module.NetKind.{NetKind}
+use Rattle.ae_vmodule.specs.declared.module.NetKind.TheVariants.{Input, Wire, OutWire, Reg, OutReg, Memory}
+use Rattle.ae_vmodule.specs.ModuleTree.{NetTree}
 use Rattle.ae_judge.specs.Names.{is_output_kind}
 use Rattle.ae_runs.specs.Named.{StandsFor}
 use Rattle.ae_elab.specs.Declaring.{ArePlainOutlets, is_output, shown, with_nets}

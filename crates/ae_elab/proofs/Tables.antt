@@ -1,8 +1,8 @@
 -- The names of a module, and those whose turn it is.
 use Rattle.std.proofs.Common.{ℕ, ◌≡◌, ◌<◌, false, List, length, get_or, ap, sym}
 use Rattle.std.proofs.lemmas.Option.{slice_get-get_or, get_or_from_slice_get}
-use Rattle.ae_vread.specs.declared.module.NetKind.TheVariants.{Input}
-use Rattle.ae_vread.specs.declared.module.VNet.{VNet}
+use Rattle.ae_vmodule.specs.declared.module.NetKind.TheVariants.{Input}
+use Rattle.ae_vmodule.specs.declared.module.VNet.{VNet}
 use Rattle.ae_judge.specs.Table.{NameTable}
 
 -- the declared nets of a table that is known

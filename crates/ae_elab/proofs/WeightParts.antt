@@ -3,7 +3,7 @@ use Rattle.std.proofs.Common.{ℕ, ◌≡◌, ◌+◌, List, [], ◌∷◌, leng
 use Rattle.std.specs.Prelude.{flat_map}
 use Rattle.std.specs.List.{sum_by}
 use Rattle.std.proofs.lemmas.List.Sums.{sum_by-append, sum_by-cons}
-use Rattle.ae_vread.specs.ModuleTree.{ItemTree, nets, assigns, always, ModuleTree}
+use Rattle.ae_vmodule.specs.ModuleTree.{ItemTree, nets, assigns, always, ModuleTree}
 use Rattle.ae_judge.specs.Names.{drives_of, equations}
 use Rattle.ae_judge.specs.Weight.{drive_weight, item_weight, weight}
 use Rattle.ae_assign.specs.Edges.{edge_weight}

@@ -6,9 +6,9 @@ use Rattle.ae_netlist.specs.declared.cell.Cell.TheVariants.{Input as InputCell}
 use Rattle.ae_netlist.specs.declared.cell.SizedCell.{SizedCell}
 use Rattle.ae_netlist.specs.declared.cell.Outlet.{Outlet}
 use Rattle.ae_netlist.specs.Circuit.{Circuit, new_memory, new_register}
-use Rattle.ae_vread.specs.declared.module.NetKind.{NetKind}
-use Rattle.ae_vread.specs.declared.module.NetKind.TheVariants.{Input, Wire, OutWire, Reg, OutReg, Memory}
-use Rattle.ae_vread.specs.ModuleTree.{NetTree, ModuleTree}
+use Rattle.ae_vmodule.specs.declared.module.NetKind.{NetKind}
+use Rattle.ae_vmodule.specs.declared.module.NetKind.TheVariants.{Input, Wire, OutWire, Reg, OutReg, Memory}
+use Rattle.ae_vmodule.specs.ModuleTree.{NetTree, ModuleTree}
 use Rattle.ae_judge.specs.Names.{is_clock, is_input_kind, is_memory_kind, is_output_kind, is_register_kind}
 use Rattle.ae_judge.specs.Faults.{NetAt}
 use Rattle.ae_runs.specs.SameRuns.{cell_depth, input_cells, kind_depth, state_cells}

@@ -2,7 +2,7 @@
 use Rattle.std.specs.Prelude.{ℕ, ◌≡◌, ◌+◌, ◌<◌, ◌≤◌, true, false, List, [], ◌∷◌, length, Option, Some, None, slice_get}
 use Rattle.ae_netlist.specs.declared.cell.NetId.{NetId}
 use Rattle.ae_netlist.specs.declared.cell.SizedCell.{SizedCell}
-use Rattle.ae_vread.specs.ModuleTree.{ExprTree, NetTree, ModuleTree}
+use Rattle.ae_vmodule.specs.ModuleTree.{ExprTree, NetTree, ModuleTree}
 use Rattle.ae_judge.specs.Names.{is_clock}
 use Rattle.ae_judge.specs.Faults.{NetAt}
 use Rattle.ae_judge.specs.Weight.{expr_weight}

@@ -2,7 +2,7 @@
 
 ghost use Rattle.std.specs.Prelude.{◌≡◌, ◌<◌, ◌≤◌, ◌*◌, ◌^◌, ℕ, List, length, map, IfErr, IfOk, OnOk};
 ghost use Rattle.ae_vread.specs.Spells.{Spells};
-ghost use Rattle.ae_vread.specs.View.{module_tree};
+ghost use Rattle.ae_vmodule.specs.View.{module_tree};
 ghost use Rattle.ae_judge.specs.Table.{table_of};
 ghost use Rattle.ae_judge.specs.Weight.{weight};
 ghost use Rattle.ae_judge.specs.Faults.{IsFault, IsWellFormed};
@@ -21,7 +21,7 @@ use ae_judge::{ElabFault, Names, judge, spelled_shape};
 use ae_netlist::{Netlist, has_one_run};
 use ae_order::{drive_values, sorted_wires};
 use ae_runs::same_runs;
-use ae_vread::{Expr, VModule};
+use ae_vmodule::{Expr, VModule};
 use std::alloc::{AllocError, Global};
 
 /// The most cells of a netlist: 8 for each unit of the greatest weight.

@@ -1,8 +1,8 @@
 // The nets of inputs, registers and memories.
 
 ghost use Rattle.std.specs.Prelude.{ℕ, ◌≡◌, ◌≤◌, [], length, IfOk, OnOk, Some};
-ghost use Rattle.ae_vread.specs.declared.module.NetKind.TheVariants.{Memory};
-ghost use Rattle.ae_vread.specs.View.{module_tree};
+ghost use Rattle.ae_vmodule.specs.declared.module.NetKind.TheVariants.{Memory};
+ghost use Rattle.ae_vmodule.specs.View.{module_tree};
 ghost use Rattle.ae_netlist.specs.Circuit.{new_memory, new_register};
 ghost use Rattle.ae_netlist.specs.Counts.{count_of, is_input};
 ghost use Rattle.ae_judge.specs.Table.{table_of};
@@ -13,7 +13,7 @@ ghost use Rattle.ae_elab.specs.Declaring.{AddsCell, AreDeclared, given_cell};
 
 use ae_judge::{Names, clock_of, is_named};
 use ae_netlist::{Cell, NetId, Netlist, Port};
-use ae_vread::{NetKind, VModule, VNet};
+use ae_vmodule::{NetKind, VModule, VNet};
 use ae_word::Width;
 use std::alloc::{AllocError, Global};
 

@@ -3,8 +3,8 @@
 ghost use Rattle.std.specs.Prelude.{◌≡◌, ◌≤◌, ◌<◌, ◌+◌, ◌*◌, ◌∷◌, [], ℕ, List, Some, false, true, length, map, replicate, slice_get, IfOk, OnOk};
 ghost use Rattle.std.specs.List.{AllByRecursion, flat_map, sum_by};
 ghost use Rattle.ae_netlist.specs.Runs.{Clock, IsRun};
-ghost use Rattle.ae_vread.specs.ModuleTree.{NetTree};
-ghost use Rattle.ae_vread.specs.View.{item_tree, module_tree, net_tree};
+ghost use Rattle.ae_vmodule.specs.ModuleTree.{NetTree};
+ghost use Rattle.ae_vmodule.specs.View.{item_tree, module_tree, net_tree};
 ghost use Rattle.ae_judge.specs.Names.{is_clock, item_targets};
 ghost use Rattle.ae_judge.specs.Table.{table_of};
 ghost use Rattle.ae_judge.specs.Faults.{NetAt};
@@ -20,7 +20,7 @@ ghost use Rattle.ae_assign.specs.Edges.{ActsItems, AreFresh, FitNexts, FitsNext,
 use ae_assign::{Next, act};
 use ae_judge::Names;
 use ae_netlist::{NetId, Netlist};
-use ae_vread::{VItem, VModule, VNet, Words};
+use ae_vmodule::{VItem, VModule, VNet, Words};
 use std::alloc::{AllocError, Global};
 
 /// What registers and memories take after an item.

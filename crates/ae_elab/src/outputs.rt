@@ -1,8 +1,8 @@
 // The outputs of a module.
 
 ghost use Rattle.std.specs.Prelude.{◌≡◌, ◌<◌, ◌-◌, ◌^◌, ◌++◌, ◌∷◌, [], ℕ, length, map, true, OnOk, Some};
-ghost use Rattle.ae_vread.specs.ModuleTree.{NetTree};
-ghost use Rattle.ae_vread.specs.View.{module_tree};
+ghost use Rattle.ae_vmodule.specs.ModuleTree.{NetTree};
+ghost use Rattle.ae_vmodule.specs.View.{module_tree};
 ghost use Rattle.ae_netlist.specs.declared.cell.NetId.{NetId};
 ghost use Rattle.ae_netlist.specs.declared.cell.Outlet.{Outlet};
 ghost use Rattle.ae_netlist.specs.Circuit.{IsNet, width_of};
@@ -13,7 +13,7 @@ ghost use Rattle.ae_runs.specs.Named.{AreNets};
 ghost use Rattle.ae_elab.specs.Declaring.{ArePlainOutlets, HasNet, is_output, shown, with_nets};
 
 use ae_netlist::{NetId, Netlist, Port};
-use ae_vread::{NetKind, VModule};
+use ae_vmodule::{NetKind, VModule};
 use std::alloc::AllocError;
 
 fn is_output_kind(kind: NetKind) -> bool

@@ -2,8 +2,8 @@
 
 ghost use Rattle.std.specs.Prelude.{◌≡◌, ◌<◌, ◌≤◌, ◌+◌, ◌*◌, ℕ, List, Some, length, map, slice_get, slice_set, OnOk};
 ghost use Rattle.std.specs.List.{sum_by};
-ghost use Rattle.ae_vread.specs.ModuleTree.{NetTree};
-ghost use Rattle.ae_vread.specs.View.{module_tree};
+ghost use Rattle.ae_vmodule.specs.ModuleTree.{NetTree};
+ghost use Rattle.ae_vmodule.specs.View.{module_tree};
 ghost use Rattle.ae_judge.specs.Names.{equations};
 ghost use Rattle.ae_judge.specs.Faults.{NetAt};
 ghost use Rattle.ae_judge.specs.Table.{table_of};
@@ -18,7 +18,7 @@ ghost use Rattle.ae_elab.specs.Wiring.{AreWired, IsWiring, KeepsNets, open_weigh
 use ae_express::given_word;
 use ae_judge::Names;
 use ae_netlist::{NetId, Netlist};
-use ae_vread::{Expr, VModule};
+use ae_vmodule::{Expr, VModule};
 use std::alloc::AllocError;
 
 fn place_at(order: &[u32], turn: usize) -> usize

@@ -5,9 +5,9 @@ use Rattle.ae_word.specs.WordTable.{bit, word_result}
 use Rattle.ae_netlist.specs.declared.cell.NetId.{NetId}
 use Rattle.ae_netlist.specs.Circuit.{Circuit, IsNet}
 use Rattle.ae_netlist.specs.Runs.{Clock}
-use Rattle.ae_vread.specs.declared.module.UnOp.TheVariants.{Not, Flip}
-use Rattle.ae_vread.specs.declared.module.BinOp.{BinOp}
-use Rattle.ae_vread.specs.ModuleTree.{ExprTree, name, constant, place, part, index, unary, binary, choice, concat_one, concat_more, NetTree}
+use Rattle.ae_vmodule.specs.declared.module.UnOp.TheVariants.{Not, Flip}
+use Rattle.ae_vmodule.specs.declared.module.BinOp.{BinOp}
+use Rattle.ae_vmodule.specs.ModuleTree.{ExprTree, name, constant, place, part, index, unary, binary, choice, concat_one, concat_more, NetTree}
 use Rattle.ae_judge.specs.Names.{is_memory_name}
 use Rattle.ae_judge.specs.Widths.{own_width}
 use Rattle.ae_judge.specs.Weight.{expr_weight, operator_weight, shift_weight}

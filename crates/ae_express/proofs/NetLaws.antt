@@ -9,9 +9,9 @@ use Rattle.ae_netlist.specs.declared.cell.Cell.TheVariants.{Const, Peek}
 use Rattle.ae_netlist.proofs.Gets.{get_pushed}
 use Rattle.ae_netlist.proofs.Carried.{carries_trans, carries_extends}
 use Rattle.ae_netlist.proofs.Growing.{Keeps, keeps_extends, net_width, extends_append}
-use Rattle.ae_vread.specs.declared.module.NetKind.{NetKind}
-use Rattle.ae_vread.specs.declared.module.NetKind.TheVariants.{Input, Wire, OutWire, Reg, OutReg, Memory}
-use Rattle.ae_vread.specs.ModuleTree.{NetTree, index, place}
+use Rattle.ae_vmodule.specs.declared.module.NetKind.{NetKind}
+use Rattle.ae_vmodule.specs.declared.module.NetKind.TheVariants.{Input, Wire, OutWire, Reg, OutReg, Memory}
+use Rattle.ae_vmodule.specs.ModuleTree.{NetTree, index, place}
 use Rattle.ae_judge.specs.Names.{is_memory_name, is_memory_kind, passes, depth_of, depth_in, depth_of_kind}
 use Rattle.ae_judge.specs.Widths.{declared_width}
 use Rattle.ae_runs.specs.Values.{ModuleClock, value_at}

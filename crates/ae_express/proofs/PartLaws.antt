@@ -5,7 +5,7 @@ use Rattle.std.proofs.lemmas.Nat.{pow-add}
 use Rattle.ae_netlist.specs.declared.cell.SizedCell.{SizedCell}
 use Rattle.ae_netlist.specs.Circuit.{Circuit}
 use Rattle.ae_netlist.specs.Runs.{Clock}
-use Rattle.ae_vread.specs.ModuleTree.{ExprTree, concat_more, NetTree}
+use Rattle.ae_vmodule.specs.ModuleTree.{ExprTree, concat_more, NetTree}
 use Rattle.ae_judge.specs.Widths.{own_width}
 use Rattle.ae_runs.specs.Values.{value_at, own_value}
 use Rattle.ae_runs.specs.Named.{read}

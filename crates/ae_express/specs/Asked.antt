@@ -1,6 +1,6 @@
 -- The widths of the parts of concatenations, in the order in which they are asked for where an expression becomes cells.
 use Rattle.std.specs.Prelude.{◌≡◌, ℕ, List, [], ◌∷◌, ◌++◌}
-use Rattle.ae_vread.specs.ModuleTree.{ExprTree, name, constant, place, part, index, unary, binary, choice, concat_one, concat_more, NetTree}
+use Rattle.ae_vmodule.specs.ModuleTree.{ExprTree, name, constant, place, part, index, unary, binary, choice, concat_one, concat_more, NetTree}
 use Rattle.ae_judge.specs.Widths.{own_width}
 
 -- the own width of each part of a concatenation; the last in the list is asked for first: each part's before those inside

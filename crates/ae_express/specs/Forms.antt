@@ -3,9 +3,9 @@ use Rattle.std.specs.Prelude.{◌≡◌, ◌≢◌, ℕ, ◌-◌, ◌^◌, ◌==
 use Rattle.ae_word.specs.declared.op.WordOp.{WordOp}
 use Rattle.ae_word.specs.declared.op.WordOp.TheVariants.{Mux}
 use Rattle.ae_word.specs.WordTable.{HasRange, bit, is_signed, result_width_of, word_result}
-use Rattle.ae_vread.specs.declared.module.BinOp.{BinOp}
-use Rattle.ae_vread.specs.declared.module.BinOp.TheVariants.{Mul, Add, Sub, Shl, Shr, Lt, Le, Gt, Ge, Eq, Ne, And, Xor, Or, Both, Either}
-use Rattle.ae_vread.specs.ModuleTree.{ExprTree}
+use Rattle.ae_vmodule.specs.declared.module.BinOp.{BinOp}
+use Rattle.ae_vmodule.specs.declared.module.BinOp.TheVariants.{Mul, Add, Sub, Shl, Shr, Lt, Le, Gt, Ge, Eq, Ne, And, Xor, Or, Both, Either}
+use Rattle.ae_vmodule.specs.ModuleTree.{ExprTree}
 use Rattle.ae_judge.specs.Widths.{binary_width}
 use Rattle.ae_judge.specs.Weight.{operator_weight, shift_weight}
 use Rattle.ae_runs.specs.Values.{left_width, right_width, binary_result}

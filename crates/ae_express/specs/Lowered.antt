@@ -2,7 +2,7 @@
 use Rattle.std.specs.Prelude.{ℕ, ◌+◌, ◌%◌, ◌^◌, ◌≤◌, max, List, length, Option}
 use Rattle.ae_netlist.specs.declared.cell.NetId.{NetId}
 use Rattle.ae_netlist.specs.Circuit.{Circuit, IsNet}
-use Rattle.ae_vread.specs.ModuleTree.{ExprTree, NetTree}
+use Rattle.ae_vmodule.specs.ModuleTree.{ExprTree, NetTree}
 use Rattle.ae_judge.specs.Widths.{own_width}
 use Rattle.ae_runs.specs.Values.{ModuleClock, value_at}
 use Rattle.ae_gates.specs.Cells.{GrowsByGates, IsWord}

@@ -1,9 +1,9 @@
 // Expressions as cells.
 
 ghost use Rattle.std.specs.Prelude.{◌≡◌, ◌≤◌, ◌+◌, ◌*◌, ◌++◌, length, IfOk, OnOk};
-ghost use Rattle.ae_vread.specs.ModuleTree.{concat_more, unary};
-ghost use Rattle.ae_vread.specs.Roots.{numbered};
-ghost use Rattle.ae_vread.specs.View.{expr_tree};
+ghost use Rattle.ae_vmodule.specs.ModuleTree.{concat_more, unary};
+ghost use Rattle.ae_vmodule.specs.Roots.{numbered};
+ghost use Rattle.ae_vmodule.specs.View.{expr_tree};
 ghost use Rattle.ae_judge.specs.Widths.{own_width};
 ghost use Rattle.ae_judge.specs.Weight.{expr_weight};
 ghost use Rattle.ae_gates.specs.Cells.{HasRoom};
@@ -20,7 +20,7 @@ use ae_gates::{chosen, fixed, gate, is_zero, linked, moved_by, widen};
 use ae_judge::Names;
 use ae_netlist::{NetId, Netlist};
 use ae_order::place_number;
-use ae_vread::{Expr, Root, UnOp};
+use ae_vmodule::{Expr, Root, UnOp};
 use ae_word::WordOp;
 use std::alloc::AllocError;
 

@@ -3,8 +3,8 @@
 ghost use Rattle.std.specs.Prelude.{ℕ, List, ◌≡◌, ◌<◌, ◌≤◌, ◌+◌, ◌*◌, ℕ, List, length, IfNone, IfOk, IfSome, OnOk};
 ghost use Rattle.ae_netlist.specs.Circuit.{IsNet};
 ghost use Rattle.ae_netlist.specs.Runs.{Clock};
-ghost use Rattle.ae_vread.specs.Roots.{numbered};
-ghost use Rattle.ae_vread.specs.View.{expr_tree};
+ghost use Rattle.ae_vmodule.specs.Roots.{numbered};
+ghost use Rattle.ae_vmodule.specs.View.{expr_tree};
 ghost use Rattle.ae_judge.specs.Widths.{binary_width, own_width};
 ghost use Rattle.ae_judge.specs.Weight.{operator_weight, shift_weight};
 ghost use Rattle.ae_runs.specs.Values.{binary_result, left_width, right_width};
@@ -17,7 +17,7 @@ use crate::own::own_width;
 use ae_gates::{Way, compared, gate, opposed, shifted, tested};
 use ae_judge::Names;
 use ae_netlist::{NetId, Netlist};
-use ae_vread::{BinOp, Expr, Root};
+use ae_vmodule::{BinOp, Expr, Root};
 use ae_word::WordOp;
 use std::alloc::AllocError;
 

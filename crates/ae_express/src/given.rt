@@ -2,8 +2,8 @@
 
 ghost use Rattle.std.specs.Prelude.{◌≡◌, ◌≤◌, ◌+◌, ◌*◌, ℕ, List, length, max, IfOk, OnOk};
 ghost use Rattle.ae_netlist.specs.Circuit.{IsNet};
-ghost use Rattle.ae_vread.specs.Roots.{numbered};
-ghost use Rattle.ae_vread.specs.View.{expr_tree};
+ghost use Rattle.ae_vmodule.specs.Roots.{numbered};
+ghost use Rattle.ae_vmodule.specs.View.{expr_tree};
 ghost use Rattle.ae_judge.specs.Weight.{expr_weight};
 ghost use Rattle.ae_judge.specs.Widths.{own_width};
 ghost use Rattle.ae_runs.specs.Named.{AreNamed, AreNets, read};
@@ -16,7 +16,7 @@ use crate::measure::measure;
 use ae_gates::fit;
 use ae_judge::Names;
 use ae_netlist::{NetId, Netlist};
-use ae_vread::Expr;
+use ae_vmodule::Expr;
 use std::alloc::AllocError;
 
 /// Cells of an expression that is computed at its own width, or at `least` where that is greater, and this width: at most 8

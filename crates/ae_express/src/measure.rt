@@ -1,8 +1,8 @@
 // The widths that expressions have by themselves, and those of the parts of their concatenations.
 
 ghost use Rattle.std.specs.Prelude.{◌≡◌, ◌≤◌, ◌++◌, ◌∷◌, [], length, IfOk, OnOk};
-ghost use Rattle.ae_vread.specs.Roots.{numbered};
-ghost use Rattle.ae_vread.specs.View.{expr_tree};
+ghost use Rattle.ae_vmodule.specs.Roots.{numbered};
+ghost use Rattle.ae_vmodule.specs.View.{expr_tree};
 ghost use Rattle.ae_judge.specs.Widths.{binary_width, own_width, unary_width};
 ghost use Rattle.ae_order.specs.Sound.{IsSound};
 ghost use Rattle.ae_express.specs.Asked.{part_widths};
@@ -11,7 +11,7 @@ use crate::forms::{Form, form_of};
 use crate::own::{index_width, name_width};
 use ae_judge::Names;
 use ae_order::place_number;
-use ae_vread::{BinOp, Expr, Root, UnOp};
+use ae_vmodule::{BinOp, Expr, Root, UnOp};
 use std::alloc::AllocError;
 
 /// The width of a prefix whose operand has this.

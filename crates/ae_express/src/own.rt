@@ -1,8 +1,8 @@
 // The widths that expressions have by themselves.
 
 ghost use Rattle.std.specs.Prelude.{◌≡◌, ◌≤◌, if◌then◌else◌};
-ghost use Rattle.ae_vread.specs.Roots.{numbered};
-ghost use Rattle.ae_vread.specs.View.{expr_tree, word_at};
+ghost use Rattle.ae_vmodule.specs.Roots.{numbered};
+ghost use Rattle.ae_vmodule.specs.View.{expr_tree, word_at};
 ghost use Rattle.ae_judge.specs.Names.{is_memory_name};
 ghost use Rattle.ae_judge.specs.Widths.{own_width, declared_width};
 ghost use Rattle.ae_runs.specs.Named.{IsNamed};
@@ -10,7 +10,7 @@ ghost use Rattle.ae_order.specs.Sound.{IsSound};
 
 use crate::forms::{Form, form_of};
 use ae_judge::Names;
-use ae_vread::{Expr, Root, UnOp};
+use ae_vmodule::{Expr, Root, UnOp};
 
 /// The width of a name.
 pub fn name_width(names: &Names<'_>, name: u32) -> u32

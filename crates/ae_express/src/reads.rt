@@ -3,14 +3,14 @@
 ghost use Rattle.std.specs.Prelude.{◌≡◌, ◌<◌, ◌≤◌, ◌+◌, ◌-◌, ◌^◌, ℕ, List, length, get_or, IfOk, OnOk, true, if◌then◌else◌, Some, slice_get};
 ghost use Rattle.ae_netlist.specs.Circuit.{IsAddress, IsMemory, IsNet};
 ghost use Rattle.ae_netlist.specs.Runs.{Clock, store_at};
-ghost use Rattle.ae_vread.specs.ModuleTree.{index as index_tree, name as name_tree, part as part_tree, place as place_tree};
+ghost use Rattle.ae_vmodule.specs.ModuleTree.{index as index_tree, name as name_tree, part as part_tree, place as place_tree};
 ghost use Rattle.ae_judge.specs.Names.{depth_of, is_memory_name};
 ghost use Rattle.ae_judge.specs.Widths.{declared_width};
 ghost use Rattle.ae_runs.specs.Values.{value_at};
 ghost use Rattle.ae_gates.specs.Cells.{GrowsByGates, HasRoom, IsWord};
 ghost use Rattle.ae_runs.specs.Named.{AreNamed, AreNets, IsNamed, IsReady, place_of, read};
 ghost use Rattle.ae_order.specs.Sound.{IsWordName, places_of};
-ghost use Rattle.ae_vread.specs.View.{word_at};
+ghost use Rattle.ae_vmodule.specs.View.{word_at};
 
 use crate::own::name_width;
 use ae_gates::{cut, widen};

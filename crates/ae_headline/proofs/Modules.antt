@@ -1,6 +1,6 @@
 -- A listing means, by the Verilog profile, a module that is correct for the program.
 use Rattle.std.proofs.Common.{◌≡◌, ◌<◌, ◌≤◌, ℕ, List, length, subst, sym, Ok}
-use Rattle.ae_vread.specs.ModuleTree.{ModuleTree}
+use Rattle.ae_vmodule.specs.ModuleTree.{ModuleTree}
 use Rattle.ae_vread.specs.Spells.{Spells}
 use Rattle.ae_vread.specs.Forms.{module_tokens}
 use Rattle.ae_vread.specs.ItemReading.{read_module}

@@ -10,10 +10,10 @@ use Rattle.ae_netlist.specs.declared.cell.Cell.{Cell}
 use Rattle.ae_netlist.specs.declared.cell.Cell.TheVariants.{Input, Const, Op, Reg, Mem, Peek}
 use Rattle.ae_netlist.specs.declared.cell.SizedCell.{SizedCell}
 use Rattle.ae_netlist.specs.Circuit.{Circuit, operand, width_of}
-use Rattle.ae_vread.specs.ModuleTree.{binary, constant, part}
+use Rattle.ae_vmodule.specs.ModuleTree.{binary, constant, part}
 use Rattle.ae_verilog.specs.NetlistModule.{net_name, net_value, each_numbered, op_expression, shifted_net, cast_to}
-use Rattle.ae_vread.specs.declared.module.BinOp.{BinOp}
-use Rattle.ae_vread.specs.declared.module.BinOp.TheVariants.{Shl as LeftBy, Shr as RightBy}
+use Rattle.ae_vmodule.specs.declared.module.BinOp.{BinOp}
+use Rattle.ae_vmodule.specs.declared.module.BinOp.TheVariants.{Shl as LeftBy, Shr as RightBy}
 use Rattle.ae_verilog.specs.Notes.{NoteTree, lines_of}
 use Rattle.ae_verilog.specs.ReportLines.{ReportTree, report_lines}
 use Rattle.ae_verilog.specs.Text.{expr_text, sign_text, shift_text, op_text, value_text, widened_text, declaration_text, noted, header_text, assignment_text, edge_text, whole_text}

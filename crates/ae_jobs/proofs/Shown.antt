@@ -20,7 +20,7 @@ use Rattle.ae_jobs.specs.EvalRows.{AreRows, AreBlocks}
 use Rattle.ae_jobs.specs.Inputs.{widths_of, values_of, blocks_of}
 use Rattle.std.specs.Prelude.{codes}
 use Rattle.ae_netlist.specs.Circuit.{Circuit}
-use Rattle.ae_vread.specs.ModuleTree.{ModuleTree}
+use Rattle.ae_vmodule.specs.ModuleTree.{ModuleTree}
 use Rattle.ae_vread.specs.Spells.{Spells}
 use Rattle.ae_rewrite.specs.StProgramTree.{StFuncTree}
 use Rattle.ae_lower.proofs.Blocks.{keys_of}

@@ -1,7 +1,7 @@
 -- A well-formed module with rows that are right and a run within the limit is answered by Ok.
 use Rattle.std.proofs.Common.{ℕ, ◌≡◌, ◌<◌, ◌≤◌, List, None, arith, refl, sym, ◌∙◌, subst}
 use Rattle.std.proofs.lemmas.Option.{none-some}
-use Rattle.ae_vread.specs.ModuleTree.{ModuleTree}
+use Rattle.ae_vmodule.specs.ModuleTree.{ModuleTree}
 use Rattle.ae_judge.specs.declared.fault.ElabFault.{ElabFault}
 use Rattle.ae_judge.specs.declared.fault.ElabFault.TheVariants as e
 use Rattle.ae_judge.specs.Faults.{IsFault, IsWellFormed}

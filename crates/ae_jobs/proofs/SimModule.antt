@@ -9,7 +9,7 @@ use Rattle.ae_netlist.specs.declared.cell.Outlet.{Outlet}
 use Rattle.ae_netlist.specs.Circuit.{Circuit, width_of}
 use Rattle.ae_netlist.specs.Counts.{is_input, count_of}
 use Rattle.ae_netlist.specs.Rows.{AreInputs, filled}
-use Rattle.ae_vread.specs.ModuleTree.{NetTree, ModuleTree}
+use Rattle.ae_vmodule.specs.ModuleTree.{NetTree, ModuleTree}
 use Rattle.ae_judge.specs.Names.{is_input_kind, is_clock}
 use Rattle.ae_judge.specs.Weight.{weight}
 use Rattle.ae_judge.specs.Faults.{IsWellFormed}

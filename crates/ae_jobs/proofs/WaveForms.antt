@@ -17,9 +17,9 @@ use Rattle.ae_netlist.specs.declared.cell.Cell.TheVariants.{Input, Const, Op, Re
 use Rattle.ae_netlist.specs.declared.cell.SizedCell.{SizedCell}
 use Rattle.ae_netlist.specs.declared.cell.Outlet.{Outlet}
 use Rattle.ae_netlist.specs.Circuit.{Circuit, width_of}
-use Rattle.ae_vread.specs.declared.module.NetKind.{NetKind}
-use Rattle.ae_vread.specs.declared.module.NetKind.TheVariants as kind
-use Rattle.ae_vread.specs.ModuleTree.{ModuleTree, NetTree}
+use Rattle.ae_vmodule.specs.declared.module.NetKind.{NetKind}
+use Rattle.ae_vmodule.specs.declared.module.NetKind.TheVariants as kind
+use Rattle.ae_vmodule.specs.ModuleTree.{ModuleTree, NetTree}
 use Rattle.ae_judge.specs.Names.{Among, is_clock, is_input_kind, is_output_kind}
 use Rattle.ae_judge.proofs.Members.{among_at, among_from, among_split, among_unflat, among_unmap}
 use Rattle.ae_runs.specs.Values.{ModuleClock}

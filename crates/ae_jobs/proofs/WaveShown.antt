@@ -12,7 +12,7 @@ use Rattle.ae_seq.specs.ProgramTree.{ProgramTree}
 use Rattle.ae_rewrite.specs.StProgramTree.{StFuncTree}
 use Rattle.ae_rewrite.specs.Interface.{parameter_types}
 use Rattle.ae_netlist.specs.Circuit.{Circuit}
-use Rattle.ae_vread.specs.ModuleTree.{ModuleTree}
+use Rattle.ae_vmodule.specs.ModuleTree.{ModuleTree}
 use Rattle.ae_vread.specs.Spells.{Spells}
 use Rattle.ae_ops.specs.Blocks.{stream_of}
 use Rattle.ae_ports.specs.Ports.{columns_in, outlet_port, streams_of}

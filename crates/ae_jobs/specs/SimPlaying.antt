@@ -6,7 +6,7 @@ use Rattle.ae_netlist.specs.Circuit.{Circuit}
 use Rattle.ae_netlist.specs.Counts.{is_input, count_of, cells_of}
 use Rattle.ae_netlist.specs.Runs.{Clock}
 use Rattle.ae_netlist.specs.Rows.{IsRunWith, filled}
-use Rattle.ae_vread.specs.ModuleTree.{ModuleTree}
+use Rattle.ae_vmodule.specs.ModuleTree.{ModuleTree}
 use Rattle.ae_judge.specs.declared.fault.ElabFault.{ElabFault}
 use Rattle.ae_judge.specs.Faults.{IsFault, IsWellFormed}
 use Rattle.ae_jobs.specs.declared.status.VFaultKind.{VFaultKind}

@@ -2,7 +2,7 @@
 use Rattle.std.specs.Prelude.{◌≡◌, ℕ, zero, suc, ◌+◌, ◌*◌, ◌<◌, ◌≤◌, List, [], ◌∷◌, ◌++◌, length, map, take, get_or, Option, Some, None}
 use Rattle.std.specs.Fmt.{decimal}
 use Rattle.ae_fields.specs.Rows.{bad_row, row_words}
-use Rattle.ae_vread.specs.ModuleTree.{NetTree, ModuleTree}
+use Rattle.ae_vmodule.specs.ModuleTree.{NetTree, ModuleTree}
 use Rattle.ae_vread.specs.Spells.{Spells}
 use Rattle.ae_vread.specs.Refusals.{HasFault}
 use Rattle.ae_vread.specs.declared.reader.VFault.{VFault}

@@ -7,7 +7,7 @@ ghost use Rattle.ae_netlist.specs.declared.cell.SizedCell.{SizedCell};
 ghost use Rattle.ae_netlist.specs.Counts.{is_input, count_of, cells_of};
 ghost use Rattle.ae_fields.specs.Rows.{rows};
 ghost use Rattle.ae_vread.specs.Spells.{Spells};
-ghost use Rattle.ae_vread.specs.View.{module_tree};
+ghost use Rattle.ae_vmodule.specs.View.{module_tree};
 ghost use Rattle.ae_jobs.specs.SimPlaying.{AreSimRows, IsModuleReply, IsNetSim, IsNetText, IsRefusedAs, cell_widths};
 ghost use Rattle.ae_jobs.specs.SimTexts.{IsSimulated, module_kind, text_kind, words_of_clock};
 
@@ -19,7 +19,8 @@ use ae_netlist::{Cell, Netlist, SizedCell, fill_begins, has_one_run_with};
 use ae_parse::{RowFault, read_rows};
 use ae_play::{Monitor, Stimulus, play, write_words};
 use ae_sim::Sim;
-use ae_vread::{VFault, VModule, read};
+use ae_vmodule::VModule;
+use ae_vread::{VFault, read};
 use itoa::Buffer;
 use std::alloc::{AllocError, Global};
 

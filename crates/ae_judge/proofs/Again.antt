@@ -5,9 +5,9 @@ use Rattle.std.specs.Option.{option_or}
 use Rattle.std.specs.List.{list_any}
 use Rattle.std.proofs.lemmas.Bool.{or_parts}
 use Rattle.std.proofs.lemmas.List.{drop_more, drop_all}
-use Rattle.ae_vread.specs.ModuleTree.{NetTree, ItemTree}
-use Rattle.ae_vread.specs.View.{net_tree, word_at}
-use Rattle.ae_vread.specs.declared.module.VNet.{VNet}
+use Rattle.ae_vmodule.specs.ModuleTree.{NetTree, ItemTree}
+use Rattle.ae_vmodule.specs.View.{net_tree, word_at}
+use Rattle.ae_vmodule.specs.declared.module.VNet.{VNet}
 use Rattle.ae_judge.specs.Names.{is_input_name}
 use Rattle.ae_judge.specs.Faults.{may_repeat}
 use Rattle.ae_judge.specs.Places.{Entry, with_place}

@@ -5,7 +5,7 @@ use Rattle.std.specs.List.{list_any}
 use Rattle.std.proofs.lemmas.Bool.{cases_Bool, or_cases, and_parts}
 use Rattle.std.proofs.lemmas.Bool.Decides.{nat_tests}
 use Rattle.std.proofs.lemmas.List.{append-nil}
-use Rattle.ae_vread.specs.ModuleTree.{NetTree, ItemTree, ModuleTree}
+use Rattle.ae_vmodule.specs.ModuleTree.{NetTree, ItemTree, ModuleTree}
 use Rattle.ae_judge.specs.Names.{Among, is_input_name, item_targets}
 use Rattle.ae_judge.specs.Shape.{IsShapely}
 use Rattle.ae_judge.specs.Places.{Entry, with_place, HasNames}

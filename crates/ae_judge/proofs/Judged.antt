@@ -2,7 +2,7 @@
 use Rattle.std.proofs.Common.{ℕ, ◌≡◌, Bool, true, false, not, ◌&&◌, List, [], slice_get, Option, Some, None, refl, sym, ap, ◌∙◌, arith, ◌⊎◌, inl, inr}
 use Rattle.std.specs.Prelude.{flat_map, option_map, find}
 use Rattle.std.proofs.lemmas.Bool.{or_cases, and_parts}
-use Rattle.ae_vread.specs.ModuleTree.{NetTree, ItemTree, nets, assigns, always, ModuleTree}
+use Rattle.ae_vmodule.specs.ModuleTree.{NetTree, ItemTree, nets, assigns, always, ModuleTree}
 use Rattle.ae_judge.specs.Names.{Among, is_input_kind, clock_name, is_named, is_clock, item_reads, item_targets}
 use Rattle.ae_judge.specs.Shape.{IsShapely}
 use Rattle.ae_judge.specs.Places.{HasNames}

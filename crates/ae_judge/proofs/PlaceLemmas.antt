@@ -4,8 +4,8 @@ use Rattle.std.specs.Prelude.{IfSome, bytes_eq, find, option_and_then, option_ma
 use Rattle.std.proofs.Common.{get_or}
 use Rattle.std.proofs.lemmas.List.{drop_all, drop_more, take_more, length-take, length-map, get_or-map}
 use Rattle.std.proofs.lemmas.Option.{slice_get_within, get_or_from_slice_get}
-use Rattle.ae_vread.specs.View.{net_tree, word_at}
-use Rattle.ae_vread.specs.declared.module.VNet.{VNet}
+use Rattle.ae_vmodule.specs.View.{net_tree, word_at}
+use Rattle.ae_vmodule.specs.declared.module.VNet.{VNet}
 use Rattle.std.specs.List.{AllByRecursion, IsDistinct, list_any}
 use Rattle.std.specs.Option.{option_or}
 use Rattle.std.specs.Borrow.{Bor}
@@ -13,7 +13,7 @@ use Rattle.std.proofs.lemmas.Bool.{cases_Bool, cases_eq, cond-true, cond-false, 
 use Rattle.std.proofs.lemmas.Bool.Decides.{nat_tests}
 use Rattle.indexmap.specs.IndexMap.{insert_entry}
 use Rattle.std.specs.Map.{lookup}
-use Rattle.ae_vread.specs.ModuleTree.{NetTree}
+use Rattle.ae_vmodule.specs.ModuleTree.{NetTree}
 use Rattle.ae_judge.specs.Names.{net_named}
 use Rattle.ae_judge.specs.Places.{Entry, place_in, with_place, places_of, HasNames, place_named, Finds, place_noted, AreNoted, ArePlaces}
 use Rattle.ae_judge.proofs.Members.{find_some, same_bytes, bytes_same, other_bytes}

@@ -1,13 +1,13 @@
 -- The names that the symbols of an expression read, and misuse, are those of its tree.
 use Rattle.std.proofs.Common.{ℕ, ◌≡◌, Bool, true, false, ◌||◌, List, [], ◌∷◌, ◌++◌, append-nil, append_assoc, refl, sym, ap, ◌∙◌}
 use Rattle.std.specs.List.{list_any}
-use Rattle.ae_vread.specs.Numbered as n
-use Rattle.ae_vread.specs.Numbered.{NumberedExpr}
-use Rattle.ae_vread.specs.Postfix.{coded, name_read}
-use Rattle.ae_vread.specs.View.{expr_tree, word_at}
-use Rattle.ae_vread.specs.declared.symbols.Symbol.{Symbol}
-use Rattle.ae_vread.specs.declared.symbols.Symbol.TheVariants.{Index}
-use Rattle.ae_vread.specs.ModuleTree.{NetTree}
+use Rattle.ae_vmodule.specs.Numbered as n
+use Rattle.ae_vmodule.specs.Numbered.{NumberedExpr}
+use Rattle.ae_vmodule.specs.Postfix.{coded, name_read}
+use Rattle.ae_vmodule.specs.View.{expr_tree, word_at}
+use Rattle.ae_vmodule.specs.declared.symbols.Symbol.{Symbol}
+use Rattle.ae_vmodule.specs.declared.symbols.Symbol.TheVariants.{Index}
+use Rattle.ae_vmodule.specs.ModuleTree.{NetTree}
 use Rattle.ae_judge.specs.Faults.{is_misused, is_place}
 use Rattle.ae_judge.specs.Names.{names_in}
 use Rattle.ae_judge.specs.Symbols.{any_misread, is_misread, word_read, words_read}

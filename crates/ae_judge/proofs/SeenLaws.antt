@@ -3,8 +3,8 @@ use Rattle.std.proofs.Common.{ℕ, zero, suc, ◌≡◌, ◌<◌, Bool, true, fa
 use Rattle.std.specs.Prelude.{bytes_eq}
 use Rattle.std.proofs.lemmas.Bool.{both_ways, cases_Bool, cond-false}
 use Rattle.std.proofs.lemmas.List.{map-append}
-use Rattle.ae_vread.specs.ModuleTree.{NetTree}
-use Rattle.ae_vread.specs.View.{word_at}
+use Rattle.ae_vmodule.specs.ModuleTree.{NetTree}
+use Rattle.ae_vmodule.specs.View.{word_at}
 use Rattle.ae_judge.specs.Places.{Entry, place_in, place_named, with_place}
 use Rattle.ae_judge.specs.Seen.{AreMarked, entries_of}
 use Rattle.ae_judge.proofs.Members.{bytes_same, other_bytes, same_bytes}

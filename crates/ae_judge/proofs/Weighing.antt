@@ -3,7 +3,7 @@ use Rattle.std.proofs.Common.{ℕ, ◌≡◌, ◌+◌, ◌<◌, ◌≤◌, List,
 use Rattle.std.specs.Prelude.{min, sum_by}
 use Rattle.std.proofs.lemmas.List.{take_more, take_all}
 use Rattle.std.proofs.lemmas.List.Sums.{sum_by-cons}
-use Rattle.ae_vread.specs.ModuleTree.{StmtTree, set, put, when, either, block_end, block_more}
+use Rattle.ae_vmodule.specs.ModuleTree.{StmtTree, set, put, when, either, block_end, block_more}
 use Rattle.ae_judge.specs.Weight.{stmt_weight}
 
 module _ {X Y : Type 0} (f : Y → ℕ) (g : X → Y) where

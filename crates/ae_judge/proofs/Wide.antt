@@ -3,10 +3,10 @@ use Rattle.std.proofs.Common.{ℕ, List, ◌≡◌, ◌+◌, ◌<◌, ◌≤◌,
 use Rattle.std.specs.Prelude.{Some, find, if◌then◌else◌, min, nat_le, nat_lt, option_map}
 use Rattle.std.proofs.lemmas.Bool.Decides.{nat_tests}
 use Rattle.std.proofs.lemmas.List.{drop_more}
-use Rattle.ae_vread.specs.View.{net_tree}
-use Rattle.ae_vread.specs.declared.module.VNet.{VNet}
+use Rattle.ae_vmodule.specs.View.{net_tree}
+use Rattle.ae_vmodule.specs.declared.module.VNet.{VNet}
 use Rattle.ae_judge.specs.Judging.{first_too_large}
-use Rattle.ae_vread.specs.ModuleTree.{ExprTree, NetTree, concat_more}
+use Rattle.ae_vmodule.specs.ModuleTree.{ExprTree, NetTree, concat_more}
 use Rattle.ae_judge.specs.Widths.{own_width}
 use Rattle.ae_judge.specs.Faults.{is_too_large, is_too_wide}
 use Rattle.std.proofs.Math.Nat.{pow-le-pow_right}

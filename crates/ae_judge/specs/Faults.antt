@@ -1,7 +1,7 @@
 -- The faults of elaboration, in their order, and which modules are well formed.
 use Rattle.std.specs.Prelude.{ℕ, ◌≡◌, ◌+◌, ◌^◌, ◌<◌, ◌≤◌, ◌⊎◌, nat_lt, nat_le, Bool, true, false, not, ◌&&◌, ◌||◌, List, Some, slice_get, take, map, flat_map}
 use Rattle.std.specs.List.{list_any}
-use Rattle.ae_vread.specs.ModuleTree.{ExprTree, name, constant, place, part, index, unary, binary, choice, concat_one, concat_more, StmtTree, set, put, when, either, block_end, block_more, NetTree, DriveTree, ItemTree, nets, assigns, always, ModuleTree}
+use Rattle.ae_vmodule.specs.ModuleTree.{ExprTree, name, constant, place, part, index, unary, binary, choice, concat_one, concat_more, StmtTree, set, put, when, either, block_end, block_more, NetTree, DriveTree, ItemTree, nets, assigns, always, ModuleTree}
 use Rattle.ae_judge.specs.declared.fault.ElabFault.{ElabFault}
 use Rattle.ae_judge.specs.declared.fault.ElabFault.TheVariants.{Unknown, Twice, Kind, Undriven, Width, Loop, Large, Memory}
 use Rattle.ae_judge.specs.Names.{Among, is_input_kind, depth_of_kind, is_input_name, is_wire_name, is_register_name, is_memory_name, is_ranged, is_one_bit_input, depth_of, is_clock, names_in, stmt_reads, stmt_targets, target_of, item_reads, item_targets, equations}

@@ -1,7 +1,7 @@
 -- The tests by which a module is judged, one net, name or item after the other.
 use Rattle.std.specs.Prelude.{ℕ, ◌+◌, Bool, false, not, ◌&&◌, ◌||◌, if◌then◌else◌, List, [], ◌∷◌, ◌++◌, Option, Some, None, is_some, min, nat_lt, map, flat_map, find, option_map}
 use Rattle.std.specs.List.{list_any}
-use Rattle.ae_vread.specs.ModuleTree.{NetTree, DriveTree, ItemTree, nets, assigns, always, ModuleTree}
+use Rattle.ae_vmodule.specs.ModuleTree.{NetTree, DriveTree, ItemTree, nets, assigns, always, ModuleTree}
 use Rattle.ae_judge.specs.Names.{net_named, passes, is_input_kind, is_input_name, is_one_bit_input, is_named, names_in, drive_reads, target_of, stmt_reads, stmt_targets, item_reads, item_targets}
 use Rattle.ae_judge.specs.Places.{Entry, place_in, with_place}
 use Rattle.ae_judge.specs.Faults.{Never, IsFirst, may_repeat, is_misused_in_drive, is_misused_in_stmt, is_too_large, HasUnknown, HasTwice, HasKind, HasUndriven, HasWidth}

@@ -2,8 +2,8 @@
 use Rattle.std.specs.Prelude.{ℕ, suc, ◌≡◌, ◌<◌, length, List, [], ◌∷◌, ◌++◌, Option, Some, None, is_some, if◌then◌else◌, bytes_eq, map, slice_get, option_map}
 use Rattle.std.specs.List.{list_any}
 use Rattle.std.specs.Borrow.{Bor}
-use Rattle.ae_vread.specs.ModuleTree.{NetTree}
-use Rattle.ae_vread.specs.View.{word_at}
+use Rattle.ae_vmodule.specs.ModuleTree.{NetTree}
+use Rattle.ae_vmodule.specs.View.{word_at}
 
 -- a name and its place
 abbrev pub Entry : Type 0

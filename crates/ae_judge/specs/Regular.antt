@@ -1,5 +1,5 @@
 -- Modules of which no fault comes before that of a loop.
-use Rattle.ae_vread.specs.ModuleTree.{ModuleTree}
+use Rattle.ae_vmodule.specs.ModuleTree.{ModuleTree}
 use Rattle.ae_judge.specs.Faults.{HasUnknown, HasTwice, HasKind, HasUndriven, HasWidth, Never}
 
 pub record IsRegular (m : ModuleTree) : Type 0 where

@@ -1,7 +1,7 @@
 -- Names that were seen.
 use Rattle.std.specs.Prelude.{ℕ, ◌≡◌, Bool, List, Some, is_some, length, map, slice_get}
-use Rattle.ae_vread.specs.ModuleTree.{NetTree}
-use Rattle.ae_vread.specs.View.{word_at}
+use Rattle.ae_vmodule.specs.ModuleTree.{NetTree}
+use Rattle.ae_vmodule.specs.View.{word_at}
 use Rattle.ae_judge.specs.Places.{Entry, place_in, place_named}
 use Rattle.ae_judge.specs.Table.{NameTable}
 

@@ -1,10 +1,10 @@
 -- The names that symbols of postfix code read, and those that they misuse.
 use Rattle.std.specs.Prelude.{ℕ, Bool, true, false, not, ◌&&◌, ◌||◌, List, [], ◌∷◌, ◌++◌, Option, Some, None}
-use Rattle.ae_vread.specs.ModuleTree.{NetTree}
-use Rattle.ae_vread.specs.Postfix.{name_read}
-use Rattle.ae_vread.specs.View.{word_at}
-use Rattle.ae_vread.specs.declared.symbols.Symbol.{Symbol}
-use Rattle.ae_vread.specs.declared.symbols.Symbol.TheVariants.{Name, Number, Const, Part, Index, Unary, Binary, Choose, One, More, Set, Put, When, Either, End, Then}
+use Rattle.ae_vmodule.specs.ModuleTree.{NetTree}
+use Rattle.ae_vmodule.specs.Postfix.{name_read}
+use Rattle.ae_vmodule.specs.View.{word_at}
+use Rattle.ae_vmodule.specs.declared.symbols.Symbol.{Symbol}
+use Rattle.ae_vmodule.specs.declared.symbols.Symbol.TheVariants.{Name, Number, Const, Part, Index, Unary, Binary, Choose, One, More, Set, Put, When, Either, End, Then}
 use Rattle.ae_judge.specs.Names.{is_memory_name, is_ranged}
 
 abbrev pub word_read : List (List ℕ) → Option ℕ → List (List ℕ)

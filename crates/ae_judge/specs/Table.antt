@@ -1,8 +1,8 @@
 -- The names of a text, and what a module declares them as.
 use Rattle.std.specs.Prelude.{ℕ, List, map}
-use Rattle.ae_vread.specs.ModuleTree.{NetTree}
-use Rattle.ae_vread.specs.View.{net_tree}
-use Rattle.ae_vread.specs.declared.module.VNet.{VNet}
+use Rattle.ae_vmodule.specs.ModuleTree.{NetTree}
+use Rattle.ae_vmodule.specs.View.{net_tree}
+use Rattle.ae_vmodule.specs.declared.module.VNet.{VNet}
 
 pub record NameTable : Type 0 where
   -- the names, by their numbers

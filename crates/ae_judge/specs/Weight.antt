@@ -1,8 +1,8 @@
 -- The weight of a module, which bounds how large a netlist of it is.
 use Rattle.std.specs.Prelude.{ℕ, ◌+◌, length, sum_by}
-use Rattle.ae_vread.specs.declared.module.BinOp.{BinOp}
-use Rattle.ae_vread.specs.declared.module.BinOp.TheVariants.{Mul, Add, Sub, Shl, Shr, Lt, Le, Gt, Ge, Eq, Ne, And, Xor, Or, Both, Either}
-use Rattle.ae_vread.specs.ModuleTree.{ExprTree, name, constant, place, part, index, unary, binary, choice, concat_one, concat_more, StmtTree, set, put, when, either, block_end, block_more, DriveTree, ItemTree, nets, assigns, always, ModuleTree}
+use Rattle.ae_vmodule.specs.declared.module.BinOp.{BinOp}
+use Rattle.ae_vmodule.specs.declared.module.BinOp.TheVariants.{Mul, Add, Sub, Shl, Shr, Lt, Le, Gt, Ge, Eq, Ne, And, Xor, Or, Both, Either}
+use Rattle.ae_vmodule.specs.ModuleTree.{ExprTree, name, constant, place, part, index, unary, binary, choice, concat_one, concat_more, StmtTree, set, put, when, either, block_end, block_more, DriveTree, ItemTree, nets, assigns, always, ModuleTree}
 
 -- a shift by no constant stands for six shifts by a constant, each with a choice
 abbrev pub shift_weight : ExprTree → ℕ

@@ -1,10 +1,10 @@
 -- How wide names and expressions are by themselves.
 use Rattle.std.specs.Prelude.{ℕ, ◌+◌, ◌-◌, max, if◌then◌else◌, List, Option, Some, None}
-use Rattle.ae_vread.specs.declared.module.UnOp.{UnOp}
-use Rattle.ae_vread.specs.declared.module.UnOp.TheVariants.{Not, Flip}
-use Rattle.ae_vread.specs.declared.module.BinOp.{BinOp}
-use Rattle.ae_vread.specs.declared.module.BinOp.TheVariants.{Mul, Add, Sub, Shl, Shr, Lt, Le, Gt, Ge, Eq, Ne, And, Xor, Or, Both, Either}
-use Rattle.ae_vread.specs.ModuleTree.{ExprTree, name, constant, place, part, index, unary, binary, choice, concat_one, concat_more, NetTree}
+use Rattle.ae_vmodule.specs.declared.module.UnOp.{UnOp}
+use Rattle.ae_vmodule.specs.declared.module.UnOp.TheVariants.{Not, Flip}
+use Rattle.ae_vmodule.specs.declared.module.BinOp.{BinOp}
+use Rattle.ae_vmodule.specs.declared.module.BinOp.TheVariants.{Mul, Add, Sub, Shl, Shr, Lt, Le, Gt, Ge, Eq, Ne, And, Xor, Or, Both, Either}
+use Rattle.ae_vmodule.specs.ModuleTree.{ExprTree, name, constant, place, part, index, unary, binary, choice, concat_one, concat_more, NetTree}
 use Rattle.ae_judge.specs.Names.{net_named, is_memory_name}
 
 abbrev pub declared_width_in : Option NetTree → ℕ

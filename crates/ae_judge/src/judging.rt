@@ -1,7 +1,7 @@
 // The first fault of a module.
 
 ghost use Rattle.std.specs.Prelude.{◌≡◌, IfErr, IfOk, OnOk, None, [], flat_map};
-ghost use Rattle.ae_vread.specs.View.{module_tree};
+ghost use Rattle.ae_vmodule.specs.View.{module_tree};
 ghost use Rattle.ae_judge.specs.Faults.{HasUnknown, HasTwice, HasKind, HasUndriven, HasWidth, IsFault};
 ghost use Rattle.ae_judge.specs.Judging.{IsEarly, IsFirstOf, IsSound, earlier, with_names};
 ghost use Rattle.ae_judge.specs.Names.{item_targets};
@@ -15,7 +15,7 @@ use crate::seen::Seen;
 use crate::twice::{first_twice, first_undriven};
 use crate::unknown::first_unknown;
 use crate::widths::{first_too_large, first_too_wide};
-use ae_vread::VModule;
+use ae_vmodule::VModule;
 use std::alloc::{AllocError, Global};
 
 impl From<AllocError> for ElabFault {

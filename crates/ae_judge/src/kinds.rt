@@ -2,8 +2,8 @@
 
 ghost use Rattle.std.specs.Prelude.{◌≡◌, ◌<◌, ◌^◌, IfOk, None, false, length, map, option_map};
 ghost use Rattle.std.specs.List.{list_any};
-ghost use Rattle.ae_vread.specs.Roots.{numbered, numbered_stmt};
-ghost use Rattle.ae_vread.specs.View.{drive_tree, expr_tree, item_tree, stmt_tree, word_at};
+ghost use Rattle.ae_vmodule.specs.Roots.{numbered, numbered_stmt};
+ghost use Rattle.ae_vmodule.specs.View.{drive_tree, expr_tree, item_tree, stmt_tree, word_at};
 ghost use Rattle.ae_judge.specs.Names.{first_clock, clock_or, is_named};
 ghost use Rattle.ae_judge.specs.Symbols.{any_misread, is_misread, is_number};
 ghost use Rattle.ae_judge.specs.Judging.{first_from, misused_in, misuses};
@@ -11,7 +11,7 @@ ghost use Rattle.ae_judge.specs.Faults.{is_misused, is_misused_in_stmt, is_misus
 
 use crate::names::{Names, is_input_kind};
 use crate::reads::item_reads;
-use ae_vread::{Drive, Expr, Stmt, StmtRoot, Symbol, VItem};
+use ae_vmodule::{Drive, Expr, Stmt, StmtRoot, Symbol, VItem};
 use std::alloc::{AllocError, Global};
 
 /// Whether a symbol misuses the name that it reads; `placed` tells whether a decimal number stands right before it.

@@ -3,7 +3,7 @@
 ghost use Rattle.std.specs.Prelude.{List, ◌≡◌, ◌<◌, ◌^◌, IfOk, IfSome, Some, None, bytes_eq, if◌then◌else◌, is_some, [], length, map, option_and_then, option_map, replicate, slice_get};
 ghost use Rattle.std.specs.List.{IsDistinct};
 ghost use Rattle.std.specs.Option.{option_or};
-ghost use Rattle.ae_vread.specs.View.{net_tree, word_at};
+ghost use Rattle.ae_vmodule.specs.View.{net_tree, word_at};
 ghost use Rattle.ae_judge.specs.Names.{net_named, is_input_name, is_wire_name, is_register_name, is_memory_name, is_ranged, is_one_bit_input, depth_of, is_input_kind, is_wire_kind, is_register_kind, is_memory_kind, depth_of_kind};
 ghost use Rattle.ae_judge.specs.Table.{table_of};
 ghost use Rattle.ae_judge.specs.Places.{AreNoted, Entry, place_in, place_named, with_place};
@@ -11,7 +11,7 @@ ghost use Rattle.ae_judge.specs.Judging.{first_again};
 ghost use Rattle.ae_judge.specs.Widths.{declared_width};
 
 use ae_keyed::Keyed;
-use ae_vread::{NetKind, VNet, Words};
+use ae_vmodule::{NetKind, VNet, Words};
 use std::alloc::{AllocError, Global};
 use std::marker::Model;
 
@@ -28,7 +28,7 @@ pub struct Names<'m> {
 
 impl<'m> Model for Names<'m> {
     ghost use Rattle.std.specs.Prelude.{◌≡◌, [], map};
-    ghost use Rattle.ae_vread.specs.View.{net_tree};
+    ghost use Rattle.ae_vmodule.specs.View.{net_tree};
     ghost use Rattle.ae_judge.specs.Table.{NameTable, table_of};
     ghost use Rattle.ae_judge.specs.Places.{ArePlaces};
     ghost use Rattle.ae_judge.specs.Judging.{first_again};

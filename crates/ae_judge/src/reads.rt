@@ -1,11 +1,11 @@
 // The names that expressions and statements read and assign, by their numbers.
 
 ghost use Rattle.std.specs.Prelude.{ℕ, List, ◌≡◌, ◌++◌, ◌∷◌, [], IfOk, OnOk, flat_map, map};
-ghost use Rattle.ae_vread.specs.Roots.{numbered, numbered_stmt};
-ghost use Rattle.ae_vread.specs.View.{drive_tree, expr_tree, item_tree, stmt_tree, word_at};
+ghost use Rattle.ae_vmodule.specs.Roots.{numbered, numbered_stmt};
+ghost use Rattle.ae_vmodule.specs.View.{drive_tree, expr_tree, item_tree, stmt_tree, word_at};
 ghost use Rattle.ae_judge.specs.Names.{drive_reads, item_reads, item_targets, names_in, stmt_reads, stmt_targets, target_of};
 
-use ae_vread::{Drive, Expr, Root, Stmt, StmtRoot, VItem};
+use ae_vmodule::{Drive, Expr, Root, Stmt, StmtRoot, VItem};
 use std::alloc::{AllocError, Global};
 
 /// Puts a name behind others.

@@ -1,7 +1,7 @@
 // Names that were seen.
 
 ghost use Rattle.std.specs.Prelude.{◌≡◌, [], IfOk, OnOk, is_some};
-ghost use Rattle.ae_vread.specs.View.{word_at};
+ghost use Rattle.ae_vmodule.specs.View.{word_at};
 ghost use Rattle.ae_judge.specs.Places.{place_in, with_place};
 
 use crate::names::Names;

@@ -1,7 +1,7 @@
 // What every spelled module has.
 
 ghost use Rattle.std.specs.Prelude.{ℕ, List, length, ◌<◌, ◌^◌};
-ghost use Rattle.ae_vread.specs.ModuleTree.{ModuleTree};
+ghost use Rattle.ae_vmodule.specs.ModuleTree.{ModuleTree};
 ghost use Rattle.ae_vread.specs.Spells.{Spells};
 ghost use Rattle.ae_judge.specs.Shape.{IsShapely};
 

@@ -2,7 +2,7 @@
 
 ghost use Rattle.std.specs.Prelude.{◌≡◌, ◌<◌, ◌^◌, IfOk, None, false, length, map, flat_map};
 ghost use Rattle.std.specs.List.{list_any};
-ghost use Rattle.ae_vread.specs.View.{item_tree, net_tree, word_at};
+ghost use Rattle.ae_vmodule.specs.View.{item_tree, net_tree, word_at};
 ghost use Rattle.ae_judge.specs.Names.{item_targets};
 ghost use Rattle.ae_judge.specs.Faults.{may_repeat};
 ghost use Rattle.ae_judge.specs.Judging.{first_from, with_names, is_driven, repeats, drives_twice, first_twice, is_undriven};
@@ -10,7 +10,7 @@ ghost use Rattle.ae_judge.specs.Judging.{first_from, with_names, is_driven, repe
 use crate::names::{Names, is_input_kind};
 use crate::reads::item_targets;
 use crate::seen::Seen;
-use ae_vread::{VItem, VNet};
+use ae_vmodule::{VItem, VNet};
 use std::alloc::{AllocError, Global};
 
 fn is_driven(driven: &Seen<'_>, name: u32) -> bool

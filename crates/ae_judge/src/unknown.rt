@@ -2,8 +2,8 @@
 
 ghost use Rattle.std.specs.Prelude.{ℕ, List, ◌≡◌, ◌<◌, ◌++◌, ◌^◌, IfOk, length, map, []};
 ghost use Rattle.std.specs.List.{list_any};
-ghost use Rattle.ae_vread.specs.View.{drive_tree, expr_tree, item_tree, word_at};
-ghost use Rattle.ae_vread.specs.Roots.{numbered};
+ghost use Rattle.ae_vmodule.specs.View.{drive_tree, expr_tree, item_tree, word_at};
+ghost use Rattle.ae_vmodule.specs.Roots.{numbered};
 ghost use Rattle.ae_judge.specs.Names.{names_in, item_reads, item_targets};
 ghost use Rattle.ae_judge.specs.Symbols.{words_read};
 ghost use Rattle.ae_judge.specs.Judging.{item_clock, first_from, is_declared_before, is_unknown, is_late, drives_unknown, uses_unknown};
@@ -11,7 +11,7 @@ ghost use Rattle.ae_judge.specs.Judging.{item_clock, first_from, is_declared_bef
 use crate::names::Names;
 use crate::places::Places;
 use crate::reads::{push_item_reads, push_item_targets, push_name};
-use ae_vread::{Drive, Expr, Symbol, VItem};
+use ae_vmodule::{Drive, Expr, Symbol, VItem};
 use std::alloc::{AllocError, Global};
 
 fn is_declared_before(names: &Names<'_>, number: u32, name: u32) -> bool

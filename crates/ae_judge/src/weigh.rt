@@ -1,12 +1,12 @@
 // The weight of a module, which bounds the netlist that is built of it.
 
 ghost use Rattle.std.specs.Prelude.{ℕ, List, ◌≡◌, ◌+◌, ◌↔◌, IsTrue, map, min, sum_by};
-ghost use Rattle.ae_vread.specs.Roots.{numbered, numbered_stmt};
-ghost use Rattle.ae_vread.specs.View.{drive_tree, expr_tree, item_tree, module_tree, stmt_tree};
+ghost use Rattle.ae_vmodule.specs.Roots.{numbered, numbered_stmt};
+ghost use Rattle.ae_vmodule.specs.View.{drive_tree, expr_tree, item_tree, module_tree, stmt_tree};
 ghost use Rattle.ae_judge.specs.Weight.{operator_weight, shift_weight, expr_weight, stmt_weight, drive_weight, item_weight};
 ghost use Rattle.ae_judge.specs.Faults.{IsLarge};
 
-use ae_vread::{BinOp, Drive, Expr, Root, Stmt, StmtRoot, VItem, VModule};
+use ae_vmodule::{BinOp, Drive, Expr, Root, Stmt, StmtRoot, VItem, VModule};
 
 /// The least weight of a module that is not built. Greater weights are not told apart from it.
 const LARGE: u32 = 10_000_001;

@@ -2,16 +2,16 @@
 
 ghost use Rattle.std.specs.Prelude.{ℕ, List, ◌≡◌, ◌+◌, ◌<◌, ◌≤◌, ◌^◌, ◌||◌, if◌then◌else◌, true, false, length, map, min, nat_lt, IfNone, IfSome};
 ghost use Rattle.std.specs.List.{list_any};
-ghost use Rattle.ae_vread.specs.View.{drive_tree, expr_tree, item_tree, net_tree, stmt_tree, word_at};
-ghost use Rattle.ae_vread.specs.Roots.{numbered, numbered_stmt};
+ghost use Rattle.ae_vmodule.specs.View.{drive_tree, expr_tree, item_tree, net_tree, stmt_tree, word_at};
+ghost use Rattle.ae_vmodule.specs.Roots.{numbered, numbered_stmt};
 ghost use Rattle.ae_judge.specs.Widths.{declared_width, own_width, unary_width, binary_width};
 ghost use Rattle.ae_judge.specs.Faults.{is_outside, is_too_wide, is_too_wide_in_stmt, is_too_wide_in_drive, is_too_wide_in_item, is_too_large};
 ghost use Rattle.ae_judge.specs.Names.{is_memory_name};
-ghost use Rattle.ae_vread.specs.ModuleTree.{concat_more};
+ghost use Rattle.ae_vmodule.specs.ModuleTree.{concat_more};
 ghost use Rattle.ae_judge.specs.Judging.{first_from, first_too_large};
 
 use crate::names::{Names, depth_of_kind};
-use ae_vread::{BinOp, Drive, Expr, Root, Stmt, StmtRoot, UnOp, VItem, VNet};
+use ae_vmodule::{BinOp, Drive, Expr, Root, Stmt, StmtRoot, UnOp, VItem, VNet};
 
 /// The own width of a prefix whose operand has this.
 fn unary_width(op: UnOp, a: u32) -> u32

@@ -15,9 +15,9 @@ use Rattle.ae_sttype.specs.StTree.{StTree, time, st_atoms, element_atom, element
 use Rattle.ae_sttype.specs.Moves.{OriginTree, TripTree, from_input, fixed, slot_number, column_number, source_of, trip_number, trips_of, lead_from}
 use Rattle.ae_moves.specs.Origins.{Move, move_latency}
 use Rattle.ae_rewrite.specs.Interface.{main_of, parameter_types, result_types, AreValues}
-use Rattle.ae_vread.specs.declared.module.NetKind.{NetKind}
-use Rattle.ae_vread.specs.declared.module.NetKind.TheVariants.{Input, Wire, OutWire, Reg, OutReg, Memory}
-use Rattle.ae_vread.specs.ModuleTree.{NetTree, ModuleTree}
+use Rattle.ae_vmodule.specs.declared.module.NetKind.{NetKind}
+use Rattle.ae_vmodule.specs.declared.module.NetKind.TheVariants.{Input, Wire, OutWire, Reg, OutReg, Memory}
+use Rattle.ae_vmodule.specs.ModuleTree.{NetTree, ModuleTree}
 use Rattle.ae_judge.specs.Names.{Among, is_output_kind, is_clock, clock_name}
 use Rattle.ae_runs.specs.Runs.{clock_at, IsResetRun, SameAt}
 use Rattle.ae_judge.specs.Faults.{IsWellFormed}

@@ -7,9 +7,9 @@ use Rattle.ae_seqtype.specs.SeqTree.{atom}
 use Rattle.ae_seqtype.proofs.Sizes.{length-kinds}
 use Rattle.ae_sttype.specs.StTree.{StTree, lanes, element_atom, element_words}
 use Rattle.ae_netlist.specs.declared.cell.Port.TheVariants.{In, Out}
-use Rattle.ae_vread.specs.declared.module.NetKind.{NetKind}
-use Rattle.ae_vread.specs.declared.module.NetKind.TheVariants.{Input, Wire, OutWire, Reg, OutReg, Memory}
-use Rattle.ae_vread.specs.ModuleTree.{NetTree, ModuleTree}
+use Rattle.ae_vmodule.specs.declared.module.NetKind.{NetKind}
+use Rattle.ae_vmodule.specs.declared.module.NetKind.TheVariants.{Input, Wire, OutWire, Reg, OutReg, Memory}
+use Rattle.ae_vmodule.specs.ModuleTree.{NetTree, ModuleTree}
 use Rattle.ae_judge.specs.Names.{Among, is_input_kind, is_output_kind, clock_name, is_clock, is_named}
 use Rattle.ae_judge.proofs.Members.{same_bytes, among_left, among_right, among_split, among_from, among_unmap}
 use Rattle.ae_verilog.specs.NetlistModule.{port_name}

@@ -2,7 +2,7 @@
 use Rattle.std.proofs.Common.{ℕ, ◌⊎◌, zero, suc, ◌≡◌, ◌+◌, ◌<◌, inl, inr, List, [], ◌∷◌, ◌++◌, length, set, replicate, Option, Some, None, slice_get, refl, sym, ap, ◌∙◌, subst, arith, length-set, Result, Ok, Err, IfOk, IfErr, OnOk}
 use Rattle.std.proofs.lemmas.Bool.{cases_eq}
 use Rattle.std.proofs.lemmas.Option.{slice_get_within, slice_get-get_or}
-use Rattle.ae_vread.specs.ModuleTree.{ExprTree, NetTree, DriveTree, ModuleTree}
+use Rattle.ae_vmodule.specs.ModuleTree.{ExprTree, NetTree, DriveTree, ModuleTree}
 use Rattle.ae_judge.specs.Names.{Among, names_in, equations}
 use Rattle.ae_judge.specs.Faults.{NetAt, Feeds, Reaches, at_once, through, HasLoop, Never}
 use Rattle.ae_judge.specs.Shape.{IsShapely}

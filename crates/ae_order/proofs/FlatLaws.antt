@@ -2,7 +2,7 @@
 use Rattle.std.proofs.Common.{ℕ, zero, suc, ◌≡◌, ◌+◌, ◌-◌, ◌<◌, ◌≤◌, List, [], ◌∷◌, ◌++◌, length, take, Option, Some, None, slice_get, refl, sym, ap, ◌∙◌, subst, arith, add-one, length-append}
 use Rattle.std.specs.Prelude.{flat_map}
 use Rattle.std.proofs.lemmas.Option.{slice_get_within}
-use Rattle.ae_vread.specs.ModuleTree.{ExprTree, NetTree}
+use Rattle.ae_vmodule.specs.ModuleTree.{ExprTree, NetTree}
 use Rattle.ae_judge.specs.Names.{Among}
 use Rattle.ae_order.specs.Graph.{Needs, IsGraph}
 use Rattle.ae_order.specs.Drives.{IsFlat, places_in, read_before}

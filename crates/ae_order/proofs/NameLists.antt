@@ -3,7 +3,7 @@ use Rattle.std.proofs.lemmas.List.{map-append}
 use Rattle.std.proofs.Common.{ℕ, zero, suc, ◌≡◌, ◌+◌, ◌<◌, ◌≤◌, List, [], ◌∷◌, ◌++◌, length, map, take, set, replicate, Option, Some, None, slice_get, refl, sym, ap, ◌∙◌, arith, append_assoc, append-nil, add-one, inl, inr, IfSome, length-append}
 use Rattle.std.specs.Prelude.{flat_map, option_map}
 use Rattle.std.proofs.lemmas.Bool.{cases_lt}
-use Rattle.ae_vread.specs.ModuleTree.{ExprTree, NetTree, DriveTree, ItemTree, ModuleTree}
+use Rattle.ae_vmodule.specs.ModuleTree.{ExprTree, NetTree, DriveTree, ItemTree, ModuleTree}
 use Rattle.ae_judge.specs.Names.{names_in, drives_of, equations}
 use Rattle.ae_runs.specs.Named.{place_of}
 use Rattle.ae_order.specs.Drives.{IsFlat, noted, places_in, read_before, with_drive}

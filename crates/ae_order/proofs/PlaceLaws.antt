@@ -1,6 +1,6 @@
 -- Where a declaration stands.
 use Rattle.std.proofs.Common.{ℕ, ◌≡◌, List, slice_get, sym, ◌∙◌}
-use Rattle.ae_vread.specs.ModuleTree.{NetTree}
+use Rattle.ae_vmodule.specs.ModuleTree.{NetTree}
 use Rattle.ae_judge.specs.Names.{net_named}
 use Rattle.ae_runs.specs.Named.{IsNamed, place_of}
 use Rattle.ae_runs.proofs.Declared.{named_net}

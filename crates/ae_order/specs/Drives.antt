@@ -1,15 +1,15 @@
 -- The equations of a module's wires by the places of their names, and the graph of what they read.
 use Rattle.std.specs.Prelude.{◌≡◌, ℕ, ◌<◌, List, [], ◌∷◌, length, Option, Some, None, slice_get, slice_set, replicate, take, map, flat_map, option_map}
-use Rattle.ae_vread.specs.ModuleTree.{ExprTree, NetTree, DriveTree, ModuleTree}
+use Rattle.ae_vmodule.specs.ModuleTree.{ExprTree, NetTree, DriveTree, ModuleTree}
 use Rattle.ae_judge.specs.Names.{names_in, equations}
 use Rattle.ae_judge.specs.Faults.{HasLoop, NetAt, Feeds}
 use Rattle.ae_runs.specs.Named.{IsNamed, place_of}
 use Rattle.ae_order.specs.Sound.{IsSound}
 use Rattle.ae_order.specs.declared.sort.OrderFault.{OrderFault}
 use Rattle.ae_order.specs.declared.sort.OrderFault.TheVariants.{Loop, Memory}
-use Rattle.ae_vread.specs.Roots.{numbered}
-use Rattle.ae_vread.specs.View.{expr_tree}
-use Rattle.ae_vread.specs.declared.symbols.Expr.{Expr}
+use Rattle.ae_vmodule.specs.Roots.{numbered}
+use Rattle.ae_vmodule.specs.View.{expr_tree}
+use Rattle.ae_vmodule.specs.declared.symbols.Expr.{Expr}
 
 -- the value of an equation, if there is one, with its names
 abbrev pub value_tree : List (List ℕ) → Option Expr → Option ExprTree

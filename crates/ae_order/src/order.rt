@@ -1,8 +1,8 @@
 // The order of the wires of a module.
 
 ghost use Rattle.std.specs.Prelude.{ℕ, List, ◌≡◌, ◌<◌, ◌^◌, ◌++◌, ◌+◌, ◌∷◌, [], IfErr, IfOk, IfSome, OnOk, None, length, map, replicate};
-ghost use Rattle.ae_vread.specs.Roots.{numbered};
-ghost use Rattle.ae_vread.specs.View.{drive_tree, expr_tree, item_tree, module_tree, word_at};
+ghost use Rattle.ae_vmodule.specs.Roots.{numbered};
+ghost use Rattle.ae_vmodule.specs.View.{drive_tree, expr_tree, item_tree, module_tree, word_at};
 ghost use Rattle.ae_judge.specs.Names.{drives_of, names_in};
 ghost use Rattle.ae_judge.specs.Faults.{HasLoop, IsFault, IsWellFormed, Never};
 ghost use Rattle.ae_judge.specs.Shape.{IsShapely};
@@ -15,7 +15,7 @@ ghost use Rattle.ae_judge.specs.Table.{table_of};
 use crate::places::{place_number, place_of};
 use crate::sort::{OrderFault, order};
 use ae_judge::{ElabFault, Names, is_large};
-use ae_vread::{Drive, Expr, Root, VItem, VModule};
+use ae_vmodule::{Drive, Expr, Root, VItem, VModule};
 use std::alloc::{AllocError, Global};
 
 /// Notes the value of each equation at the place of its name.

@@ -1,14 +1,14 @@
 // The places of names, and those that stand as indices.
 
 ghost use Rattle.std.specs.Prelude.{ℕ, List, ◌≡◌, IfNone, IfSome, false};
-ghost use Rattle.ae_vread.specs.ModuleTree.{place};
-ghost use Rattle.ae_vread.specs.View.{expr_tree, word_at};
-ghost use Rattle.ae_vread.specs.Roots.{numbered};
+ghost use Rattle.ae_vmodule.specs.ModuleTree.{place};
+ghost use Rattle.ae_vmodule.specs.View.{expr_tree, word_at};
+ghost use Rattle.ae_vmodule.specs.Roots.{numbered};
 ghost use Rattle.ae_judge.specs.Faults.{is_place};
 ghost use Rattle.ae_runs.specs.Named.{IsNamed, place_of};
 
 use ae_judge::Names;
-use ae_vread::{Expr, Root};
+use ae_vmodule::{Expr, Root};
 
 /// The place of a declared name.
 pub fn place_of(names: &Names<'_>, name: u32) -> usize

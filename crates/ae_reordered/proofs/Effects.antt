@@ -3,7 +3,7 @@ use Rattle.std.proofs.Common.{lit≤, ℕ, ◌≡◌, ◌==◌, ◌+◌, ◌≤�
 use Rattle.std.specs.Prelude.{bytes_eq, slice_set, sum_by, if◌then◌else◌}
 use Rattle.std.proofs.lemmas.Bool.{cond-false}
 use Rattle.std.proofs.lemmas.List.Sums.{sum_by-cons}
-use Rattle.ae_vread.specs.ModuleTree.{StmtTree, set, put, when, either, block_end, block_more, NetTree, ItemTree, nets, assigns, always}
+use Rattle.ae_vmodule.specs.ModuleTree.{StmtTree, set, put, when, either, block_end, block_more, NetTree, ItemTree, nets, assigns, always}
 use Rattle.ae_judge.specs.Names.{Among, stmt_targets, item_targets}
 use Rattle.ae_judge.proofs.Members.{among_left, among_right, among_or_not, other_bytes}
 use Rattle.ae_runs.specs.Values.{ModuleClock, assigned, own_value, after_stmt}

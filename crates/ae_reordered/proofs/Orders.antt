@@ -8,9 +8,9 @@ use Rattle.std.proofs.lemmas.Map.Views.{All-map-IsPermutation}
 use Rattle.std.proofs.lemmas.Option.{slice_get_within, get_or_from_slice_get, slice_get-get_or}
 use Rattle.ae_netlist.specs.Circuit.{Circuit}
 use Rattle.ae_netlist.specs.Runs as netlist
-use Rattle.ae_vread.specs.declared.module.NetKind.{NetKind}
-use Rattle.ae_vread.specs.declared.module.NetKind.TheVariants as kind
-use Rattle.ae_vread.specs.ModuleTree.{StmtTree, NetTree, DriveTree, ItemTree, nets, assigns, always, ModuleTree}
+use Rattle.ae_vmodule.specs.declared.module.NetKind.{NetKind}
+use Rattle.ae_vmodule.specs.declared.module.NetKind.TheVariants as kind
+use Rattle.ae_vmodule.specs.ModuleTree.{StmtTree, NetTree, DriveTree, ItemTree, nets, assigns, always, ModuleTree}
 use Rattle.ae_judge.specs.Names.{Among, drives_of, equations, first_clock, clock_or, clock_name, is_clock, is_input_kind, is_named, item_targets}
 use Rattle.ae_judge.proofs.Members.{among_at, among_from, among_flat, among_unflat, some_or_not, among_or_not, same_bytes}
 use Rattle.ae_judge.specs.Faults.{IsWellFormed, is_misused_in_item}

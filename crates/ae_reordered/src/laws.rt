@@ -3,7 +3,7 @@
 ghost use Rattle.std.specs.Prelude.{List, ◌↔◌};
 ghost use Rattle.std.specs.List.Sorted.{IsPermutation};
 ghost use Rattle.ae_netlist.specs.Circuit.{Circuit};
-ghost use Rattle.ae_vread.specs.ModuleTree.{ItemTree, ModuleTree};
+ghost use Rattle.ae_vmodule.specs.ModuleTree.{ItemTree, ModuleTree};
 ghost use Rattle.ae_judge.specs.Faults.{IsWellFormed};
 ghost use Rattle.ae_runs.specs.Runs.{IsModuleRun};
 ghost use Rattle.ae_runs.specs.SameRuns.{HasSameRuns};

@@ -3,9 +3,9 @@ use Rattle.std.proofs.Common.{ℕ, zero, suc, ◌≡◌, ◌+◌, ◌<◌, ◌�
 use Rattle.std.specs.Prelude.{map, flat_map, bytes_eq, not, nat_lt}
 use Rattle.std.proofs.lemmas.Bool.{cases_Bool, both_ways, or_parts}
 use Rattle.std.proofs.lemmas.Bool.Decides.{Decides-ltb}
-use Rattle.ae_vread.specs.declared.module.NetKind.{NetKind}
-use Rattle.ae_vread.specs.declared.module.NetKind.TheVariants.{Input, Wire, OutWire, Reg, OutReg, Memory}
-use Rattle.ae_vread.specs.ModuleTree.{ExprTree, StmtTree, set, put, when, either, block_end, block_more, NetTree, DriveTree, ItemTree, nets, assigns, always, ModuleTree}
+use Rattle.ae_vmodule.specs.declared.module.NetKind.{NetKind}
+use Rattle.ae_vmodule.specs.declared.module.NetKind.TheVariants.{Input, Wire, OutWire, Reg, OutReg, Memory}
+use Rattle.ae_vmodule.specs.ModuleTree.{ExprTree, StmtTree, set, put, when, either, block_end, block_more, NetTree, DriveTree, ItemTree, nets, assigns, always, ModuleTree}
 use Rattle.ae_judge.specs.Names.{Among, is_input_kind, is_wire_kind, is_register_kind, is_memory_kind, net_named, passes, is_wire_name, is_register_name, is_memory_name, is_clock, names_in, stmt_reads, stmt_targets, target_of, drive_reads, drives_of, item_reads, item_targets, equations}
 use Rattle.ae_judge.specs.Faults.{ItemAt, NetAt, IsDeclaredBefore, may_repeat, is_misused, is_misused_in_stmt, is_misused_in_drive, is_misused_in_item, IsWellFormed}
 use Rattle.ae_judge.specs.Regular.{IsRegular}

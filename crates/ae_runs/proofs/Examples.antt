@@ -1,11 +1,11 @@
 -- What the definitions give on worked examples.
 use Rattle.std.proofs.Common.{ℕ, ◌≡◌, List, [], ◌∷◌, true, false, refl, if◌then◌else◌}
 use Rattle.std.specs.Prelude.{bytes_eq, codes, map}
-use Rattle.ae_vread.specs.declared.module.NetKind.{NetKind}
-use Rattle.ae_vread.specs.declared.module.NetKind.TheVariants.{Input, OutWire, OutReg, Memory}
-use Rattle.ae_vread.specs.declared.module.UnOp.TheVariants.{Flip}
-use Rattle.ae_vread.specs.declared.module.BinOp.TheVariants.{Add, Sub, Shl, Shr, Gt}
-use Rattle.ae_vread.specs.ModuleTree.{ExprTree, name, constant, place, index, unary, binary, concat_one, set, put, when, block_end, block_more, NetTree, ItemTree, nets, assigns, always, ModuleTree}
+use Rattle.ae_vmodule.specs.declared.module.NetKind.{NetKind}
+use Rattle.ae_vmodule.specs.declared.module.NetKind.TheVariants.{Input, OutWire, OutReg, Memory}
+use Rattle.ae_vmodule.specs.declared.module.UnOp.TheVariants.{Flip}
+use Rattle.ae_vmodule.specs.declared.module.BinOp.TheVariants.{Add, Sub, Shl, Shr, Gt}
+use Rattle.ae_vmodule.specs.ModuleTree.{ExprTree, name, constant, place, index, unary, binary, concat_one, set, put, when, block_end, block_more, NetTree, ItemTree, nets, assigns, always, ModuleTree}
 use Rattle.ae_judge.specs.Names.{net_named, is_clock, equations}
 use Rattle.ae_runs.specs.Values.{ModuleClock, value_at}
 use Rattle.ae_runs.specs.Runs.{idle_clock, next_clock}

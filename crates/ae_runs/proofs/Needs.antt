@@ -2,7 +2,7 @@
 use Rattle.std.proofs.Common.{ℕ, zero, suc, ◌≡◌, ◌≤◌, ◌⊎◌, inl, inr, List, length, Some, None, arith, refl, sym, subst}
 use Rattle.std.specs.Prelude.{map}
 use Rattle.std.proofs.lemmas.List.{length-map}
-use Rattle.ae_vread.specs.ModuleTree.{DriveTree, ModuleTree}
+use Rattle.ae_vmodule.specs.ModuleTree.{DriveTree, ModuleTree}
 use Rattle.ae_judge.specs.Names.{Among, names_in, target_of, equations}
 use Rattle.ae_judge.specs.Faults.{Feeds, Reaches, at_once, through, IsWellFormed}
 use Rattle.ae_runs.specs.PlainRun.{drive_named}

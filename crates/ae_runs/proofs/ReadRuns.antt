@@ -4,9 +4,9 @@ use Rattle.ae_netlist.specs.declared.cell.SizedCell.{SizedCell}
 use Rattle.ae_netlist.specs.Circuit.{Circuit}
 use Rattle.ae_netlist.specs.Runs as netlist
 use Rattle.ae_netlist.proofs.Shapes.{clock_shaped, cell_holds}
-use Rattle.ae_vread.specs.declared.module.NetKind.{NetKind}
-use Rattle.ae_vread.specs.declared.module.NetKind.TheVariants.{Input, Wire, OutWire, Reg, OutReg, Memory}
-use Rattle.ae_vread.specs.ModuleTree.{ModuleTree}
+use Rattle.ae_vmodule.specs.declared.module.NetKind.{NetKind}
+use Rattle.ae_vmodule.specs.declared.module.NetKind.TheVariants.{Input, Wire, OutWire, Reg, OutReg, Memory}
+use Rattle.ae_vmodule.specs.ModuleTree.{ModuleTree}
 use Rattle.ae_runs.specs.Values.{ModuleClock}
 use Rattle.ae_runs.specs.Runs.{clock_at, FitsKind, IsModuleShaped, IsSettled, IsStep, IsModuleRun}
 use Rattle.ae_runs.specs.PlainRun.{clocks_from}

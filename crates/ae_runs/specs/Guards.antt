@@ -1,6 +1,6 @@
 -- What statements do, by one guarded choice for each assignment.
 use Rattle.std.specs.Prelude.{◌≡◌, ◌==◌, Bool, true, not, ◌&&◌, if◌then◌else◌, List}
-use Rattle.ae_vread.specs.ModuleTree.{StmtTree, set, put, when, either, block_end, block_more, NetTree}
+use Rattle.ae_vmodule.specs.ModuleTree.{StmtTree, set, put, when, either, block_end, block_more, NetTree}
 use Rattle.ae_runs.specs.Values.{ModuleClock, own_value, assigned, with_word, with_stored, after_stmt}
 
 -- each assignment is made where its guard is true; an `if` hands a guard on to both its branches, one behind the other

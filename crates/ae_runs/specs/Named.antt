@@ -4,9 +4,9 @@ use Rattle.ae_netlist.specs.declared.cell.NetId.{NetId}
 use Rattle.ae_netlist.specs.declared.cell.SizedCell.{SizedCell}
 use Rattle.ae_netlist.specs.Circuit.{IsNet, IsMemory}
 use Rattle.ae_netlist.specs.Runs.{Clock, word_at, store_at}
-use Rattle.ae_vread.specs.declared.module.NetKind.{NetKind}
-use Rattle.ae_vread.specs.declared.module.NetKind.TheVariants.{Input, Wire, OutWire, Reg, OutReg, Memory}
-use Rattle.ae_vread.specs.ModuleTree.{NetTree}
+use Rattle.ae_vmodule.specs.declared.module.NetKind.{NetKind}
+use Rattle.ae_vmodule.specs.declared.module.NetKind.TheVariants.{Input, Wire, OutWire, Reg, OutReg, Memory}
+use Rattle.ae_vmodule.specs.ModuleTree.{NetTree}
 use Rattle.ae_judge.specs.Names.{net_named, depth_of_kind}
 use Rattle.ae_runs.specs.Values.{ModuleClock}
 

@@ -1,6 +1,6 @@
 -- A plain, slow way to the run of a module: in each clock all wires are computed anew as often as there are wires.
 use Rattle.std.specs.Prelude.{ℕ, zero, suc, if◌then◌else◌, List, [], ◌∷◌, length, Option, Some, None, bytes_eq, find}
-use Rattle.ae_vread.specs.ModuleTree.{NetTree, DriveTree, ModuleTree}
+use Rattle.ae_vmodule.specs.ModuleTree.{NetTree, DriveTree, ModuleTree}
 use Rattle.ae_judge.specs.Names.{is_input_name, equations}
 use Rattle.ae_runs.specs.Values.{ModuleClock, assigned}
 use Rattle.ae_runs.specs.Runs.{clock_at, next_clock}

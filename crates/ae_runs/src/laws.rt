@@ -1,7 +1,7 @@
 // What the runs of a module are.
 
 ghost use Rattle.std.specs.Prelude.{ℕ, List, length, ◌<◌};
-ghost use Rattle.ae_vread.specs.ModuleTree.{ModuleTree};
+ghost use Rattle.ae_vmodule.specs.ModuleTree.{ModuleTree};
 ghost use Rattle.ae_runs.specs.Values.{ModuleClock};
 ghost use Rattle.ae_runs.specs.Runs.{HasOneModuleRun, IsModuleRunOn, IsModuleShaped, clock_at};
 ghost use Rattle.ae_judge.specs.Faults.{IsWellFormed};

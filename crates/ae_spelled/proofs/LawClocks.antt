@@ -7,7 +7,7 @@ use Rattle.ae_netlist.specs.declared.cell.Cell.TheVariants.{Input, Const, Op, Re
 use Rattle.ae_netlist.specs.declared.cell.SizedCell.{SizedCell}
 use Rattle.ae_netlist.specs.declared.cell.Outlet.{Outlet}
 use Rattle.ae_netlist.specs.Circuit as c
-use Rattle.ae_vread.specs.ModuleTree.{StmtTree, DriveTree, ItemTree, nets, assigns, always}
+use Rattle.ae_vmodule.specs.ModuleTree.{StmtTree, DriveTree, ItemTree, nets, assigns, always}
 use Rattle.ae_judge.specs.Names as e
 use Rattle.ae_judge.specs.Widths.{declared_width_in, declared_width}
 use Rattle.ae_runs.specs.Values.{ModuleClock, assigned}

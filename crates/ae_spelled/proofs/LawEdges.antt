@@ -8,7 +8,7 @@ use Rattle.ae_netlist.specs.declared.cell.Cell.TheVariants.{Input, Const, Op, Re
 use Rattle.ae_netlist.specs.declared.cell.SizedCell.{SizedCell}
 use Rattle.ae_netlist.specs.declared.cell.Outlet.{Outlet}
 use Rattle.ae_netlist.specs.Circuit as c
-use Rattle.ae_vread.specs.ModuleTree.{NetTree, ItemTree}
+use Rattle.ae_vmodule.specs.ModuleTree.{NetTree, ItemTree}
 use Rattle.ae_runs.specs.Values.{ModuleClock, assigned, with_stored}
 use Rattle.ae_runs.specs.Runs.{after_item, after_items, next_clock}
 use Rattle.ae_judge.proofs.Members.{bytes_same, other_bytes}

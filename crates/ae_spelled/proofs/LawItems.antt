@@ -8,7 +8,7 @@ use Rattle.ae_netlist.specs.declared.cell.Cell.TheVariants.{Input, Const, Op, Re
 use Rattle.ae_netlist.specs.declared.cell.SizedCell.{SizedCell}
 use Rattle.ae_netlist.specs.declared.cell.Outlet.{Outlet}
 use Rattle.ae_netlist.specs.Circuit.{operand}
-use Rattle.ae_vread.specs.ModuleTree.{constant, index, StmtTree, set, put, when, block_end, DriveTree, ItemTree, nets, always}
+use Rattle.ae_vmodule.specs.ModuleTree.{constant, index, StmtTree, set, put, when, block_end, DriveTree, ItemTree, nets, always}
 use Rattle.ae_judge.specs.Names.{Among, drives_of, equations}
 use Rattle.ae_judge.proofs.Members.{among_left, among_right, among_at, among_from, among_map, among_flat, among_unflat}
 use Rattle.ae_verilog.specs.NetlistModule.{clock_name, port_name, number_name, net_name, each_numbered, net_value, op_expression, drive, declaration, assignment, edge}

@@ -13,9 +13,9 @@ use Rattle.ae_netlist.specs.declared.cell.SizedCell.{SizedCell}
 use Rattle.ae_netlist.specs.declared.cell.Outlet.{Outlet}
 use Rattle.ae_netlist.specs.Circuit as c
 use Rattle.ae_netlist.proofs.Growing.{net_width, net_from_take, memory_from_take, operation_later}
-use Rattle.ae_vread.specs.declared.module.BinOp.{BinOp}
-use Rattle.ae_vread.specs.declared.module.BinOp.TheVariants.{Shl as LeftBy, Shr as RightBy}
-use Rattle.ae_vread.specs.ModuleTree.{ExprTree, constant, part, index, binary, choice, NetTree, DriveTree, ItemTree, ModuleTree}
+use Rattle.ae_vmodule.specs.declared.module.BinOp.{BinOp}
+use Rattle.ae_vmodule.specs.declared.module.BinOp.TheVariants.{Shl as LeftBy, Shr as RightBy}
+use Rattle.ae_vmodule.specs.ModuleTree.{ExprTree, constant, part, index, binary, choice, NetTree, DriveTree, ItemTree, ModuleTree}
 use Rattle.ae_judge.specs.Names.{Among, is_wire_kind, is_register_kind, is_memory_kind, passes, net_named, is_wire_name, is_memory_name, is_ranged, depth_in, depth_of, is_clock, drive_reads, item_reads}
 use Rattle.ae_judge.specs.Widths.{declared_width}
 use Rattle.ae_judge.specs.Faults.{is_misused, is_misused_in_stmt, is_misused_in_drive, is_misused_in_item, HasKind, is_too_large, is_outside_of, is_outside, is_too_wide, is_too_wide_in_stmt, is_too_wide_in_drive, is_too_wide_in_item, HasWidth, Never}

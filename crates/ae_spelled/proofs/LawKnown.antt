@@ -6,7 +6,7 @@ use Rattle.ae_netlist.specs.declared.cell.Cell.{Cell}
 use Rattle.ae_netlist.specs.declared.cell.Cell.TheVariants.{Input, Const, Op, Reg, Mem, Peek}
 use Rattle.ae_netlist.specs.declared.cell.SizedCell.{SizedCell}
 use Rattle.ae_netlist.specs.declared.cell.Outlet.{Outlet}
-use Rattle.ae_vread.specs.ModuleTree.{NetTree, DriveTree, ItemTree, nets, always, ModuleTree}
+use Rattle.ae_vmodule.specs.ModuleTree.{NetTree, DriveTree, ItemTree, nets, always, ModuleTree}
 use Rattle.ae_judge.specs.Names.{Among, is_input_kind, names_in, stmt_targets, target_of, item_targets}
 use Rattle.ae_judge.specs.Faults.{IsDeclaredBefore, UsesUnknown, HasUnknown, HasUndriven, Feeds, Reaches, at_once, through, HasLoop, Never}
 use Rattle.ae_judge.proofs.Members.{among_left, among_right, among_at, among_from, among_map, among_flat}

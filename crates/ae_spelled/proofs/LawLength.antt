@@ -20,9 +20,9 @@ use Rattle.ae_netlist.specs.declared.cell.Outlet.{Outlet}
 use Rattle.ae_netlist.specs.Circuit.{operand, width_of, CellFits, SizedCellFits, HaveNets, IsNet}
 use Rattle.ae_netlist.proofs.Gets.{get_take_within}
 use Rattle.ae_netlist.proofs.Settled.{each_operand}
-use Rattle.ae_vread.specs.ModuleTree.{ExprTree, constant, index, part}
-use Rattle.ae_vread.specs.declared.module.BinOp.{BinOp}
-use Rattle.ae_vread.specs.declared.module.BinOp.TheVariants.{Shl as LeftBy, Shr as RightBy}
+use Rattle.ae_vmodule.specs.ModuleTree.{ExprTree, constant, index, part}
+use Rattle.ae_vmodule.specs.declared.module.BinOp.{BinOp}
+use Rattle.ae_vmodule.specs.declared.module.BinOp.TheVariants.{Shl as LeftBy, Shr as RightBy}
 use Rattle.ae_verilog.specs.NetlistModule.{port_name, number_name, cell_name, name_in, net_name, net_value, op_expression, shifted_net, cast_to}
 use Rattle.ae_verilog.specs.Text.{PortFits, CellPortFits, sign_text, expr_text, range_text, wire_text, value_text, widened_text, op_text, is_cast, declaration_text, memory_edge, edge_text, input_text, output_text, assignment_text}
 use Rattle.ae_spelled.proofs.Named.{IsGood, fits_at, net_within, net_inside}

@@ -5,9 +5,9 @@ use Rattle.ae_netlist.specs.declared.cell.Cell.{Cell}
 use Rattle.ae_netlist.specs.declared.cell.Cell.TheVariants.{Input, Const, Op, Reg, Mem, Peek}
 use Rattle.ae_netlist.specs.declared.cell.SizedCell.{SizedCell}
 use Rattle.ae_netlist.specs.declared.cell.Outlet.{Outlet}
-use Rattle.ae_vread.specs.declared.module.NetKind.{NetKind}
-use Rattle.ae_vread.specs.declared.module.NetKind.TheVariants.{Input as InputNet, Wire as WireNet, Reg as RegNet, Memory as MemoryNet}
-use Rattle.ae_vread.specs.ModuleTree.{NetTree, ModuleTree}
+use Rattle.ae_vmodule.specs.declared.module.NetKind.{NetKind}
+use Rattle.ae_vmodule.specs.declared.module.NetKind.TheVariants.{Input as InputNet, Wire as WireNet, Reg as RegNet, Memory as MemoryNet}
+use Rattle.ae_vmodule.specs.ModuleTree.{NetTree, ModuleTree}
 use Rattle.ae_judge.specs.Names.{Among, net_named}
 use Rattle.ae_judge.proofs.Members.{same_bytes, bytes_same, among_left, among_right, among_split, among_at, among_from, among_map, among_unmap, find_only}
 use Rattle.ae_verilog.specs.NetlistModule.{clock_name, port_name, cell_name, name_in, net_name, net_of, clock_net, input_nets, output_net, declared_nets, each_numbered, inputs_of, declared_from, netlist_module}

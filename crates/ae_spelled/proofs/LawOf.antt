@@ -11,7 +11,7 @@ use Rattle.ae_netlist.specs.Circuit as c
 use Rattle.ae_netlist.specs.Counts as c_counts
 use Rattle.ae_netlist.specs.Runs as r
 use Rattle.ae_netlist.proofs.Shapes.{clock_shaped, cell_holds as net_holds}
-use Rattle.ae_vread.specs.ModuleTree.{NetTree}
+use Rattle.ae_vmodule.specs.ModuleTree.{NetTree}
 use Rattle.ae_judge.specs.Names.{Among, is_clock}
 use Rattle.ae_runs.specs.Values.{ModuleClock}
 use Rattle.ae_runs.specs.Runs.{clock_at, FitsKind, IsModuleShaped, IsSettled, next_clock, StepsTo, IsStep, IsModuleRun}

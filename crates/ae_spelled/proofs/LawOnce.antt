@@ -7,7 +7,7 @@ use Rattle.ae_netlist.specs.declared.cell.Cell.{Cell}
 use Rattle.ae_netlist.specs.declared.cell.Cell.TheVariants.{Input, Const, Op, Reg, Mem, Peek}
 use Rattle.ae_netlist.specs.declared.cell.SizedCell.{SizedCell}
 use Rattle.ae_netlist.specs.declared.cell.Outlet.{Outlet}
-use Rattle.ae_vread.specs.ModuleTree.{NetTree, ItemTree, ModuleTree}
+use Rattle.ae_vmodule.specs.ModuleTree.{NetTree, ItemTree, ModuleTree}
 use Rattle.ae_judge.specs.Names.{Among, is_input_kind, passes, is_input_name, stmt_targets, target_of, item_targets}
 use Rattle.ae_judge.specs.Faults.{HasTwice, Never}
 use Rattle.ae_judge.proofs.Members.{among_split, among_from, among_at, among_unmap}

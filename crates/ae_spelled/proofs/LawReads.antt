@@ -10,8 +10,8 @@ use Rattle.ae_netlist.specs.declared.cell.SizedCell.{SizedCell}
 use Rattle.ae_netlist.specs.declared.cell.Outlet.{Outlet}
 use Rattle.ae_netlist.specs.Circuit as c
 use Rattle.ae_netlist.proofs.Gets.{get_from_take, get_take_within}
-use Rattle.ae_vread.specs.ModuleTree.{ExprTree, binary, constant, part, DriveTree}
-use Rattle.ae_vread.specs.declared.module.BinOp.TheVariants.{Shl as LeftBy, Shr as RightBy}
+use Rattle.ae_vmodule.specs.ModuleTree.{ExprTree, binary, constant, part, DriveTree}
+use Rattle.ae_vmodule.specs.declared.module.BinOp.TheVariants.{Shl as LeftBy, Shr as RightBy}
 use Rattle.ae_judge.specs.Names.{Among, names_in, stmt_reads}
 use Rattle.ae_verilog.specs.NetlistModule.{cell_name, net_name, net_value, op_expression}
 use Rattle.ae_verilog.specs.Written.{IsWritableNetlist}

@@ -19,9 +19,9 @@ use Rattle.ae_netlist.specs.declared.cell.Outlet.{Outlet}
 use Rattle.ae_netlist.specs.Circuit as c
 use Rattle.ae_netlist.proofs.Growing.{net_width, net_from_take, memory_from_take, operation_later}
 use Rattle.ae_netlist.proofs.Fits.{word_fits}
-use Rattle.ae_vread.specs.declared.module.BinOp.{BinOp}
-use Rattle.ae_vread.specs.declared.module.BinOp.TheVariants.{Mul as Times, Add as Plus, Sub as Minus, Shl as LeftBy, Shr as RightBy, Lt as Less, Eq as Same, And as Both, Or as Either, Xor as Differ}
-use Rattle.ae_vread.specs.ModuleTree.{ExprTree, constant, part, index, binary, choice, NetTree, DriveTree}
+use Rattle.ae_vmodule.specs.declared.module.BinOp.{BinOp}
+use Rattle.ae_vmodule.specs.declared.module.BinOp.TheVariants.{Mul as Times, Add as Plus, Sub as Minus, Shl as LeftBy, Shr as RightBy, Lt as Less, Eq as Same, And as Both, Or as Either, Xor as Differ}
+use Rattle.ae_vmodule.specs.ModuleTree.{ExprTree, constant, part, index, binary, choice, NetTree, DriveTree}
 use Rattle.ae_judge.specs.Names.{Among, net_named, passes, is_memory_kind, is_memory_name}
 use Rattle.ae_judge.specs.Widths.{declared_width_in, declared_width, binary_width, own_width}
 use Rattle.ae_runs.specs.Values.{ModuleClock, binary_result, value_at, assigned}

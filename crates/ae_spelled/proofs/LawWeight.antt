@@ -10,8 +10,8 @@ use Rattle.ae_netlist.specs.declared.cell.Cell.TheVariants.{Input, Const, Op, Re
 use Rattle.ae_netlist.specs.declared.cell.SizedCell.{SizedCell}
 use Rattle.ae_netlist.specs.declared.cell.Outlet.{Outlet}
 use Rattle.ae_netlist.specs.Circuit.{operand, width_of}
-use Rattle.ae_vread.specs.ModuleTree.{ExprTree, part, binary, constant, ItemTree}
-use Rattle.ae_vread.specs.declared.module.BinOp.TheVariants.{Shl as LeftBy, Shr as RightBy}
+use Rattle.ae_vmodule.specs.ModuleTree.{ExprTree, part, binary, constant, ItemTree}
+use Rattle.ae_vmodule.specs.declared.module.BinOp.TheVariants.{Shl as LeftBy, Shr as RightBy}
 use Rattle.ae_judge.specs.Weight.{expr_weight, item_weight, weight}
 use Rattle.ae_verilog.specs.NetlistModule.{net_name, input_nets, output_net, declared_nets, each_numbered, inputs_of, declared_from, net_value, op_expression, declaration, assignment, edge, netlist_module}
 

@@ -5,7 +5,7 @@ use Rattle.ae_vtoken.specs.declared.token.Key.TheVariants.{Module, EndModule, In
 use Rattle.ae_vtoken.specs.declared.token.Sign.TheVariants.{Open, Close, Comma, Semicolon, At, Equals}
 use Rattle.ae_vtoken.specs.Tables.{signs, keys, unused_0, unused_1, unused_2, unused_3, unused_4, unused_5, unused_6, unused_7, unused_8, unused_9}
 use Rattle.ae_vtoken.specs.Tokens.{TokenTree, Name, Word, Mark, after_gap, Between, token_of, AreTokens, No_more, Then}
-use Rattle.ae_vread.specs.ModuleTree.{ExprTree, name}
+use Rattle.ae_vmodule.specs.ModuleTree.{ExprTree, name}
 use Rattle.ae_vread.specs.ExprForms.{NumberForm, NameForm}
 use Rattle.ae_vread.specs.StmtForms.{SetForm, PutForm, IfForm}
 use Rattle.ae_vread.specs.Forms.{DriveForm, RegForm, ItemForm, WireDrives, RegItem, AssignItem, AlwaysItem, range_tokens, item_tokens}

@@ -19,9 +19,9 @@ use Rattle.ae_netlist.specs.declared.cell.Cell.{Cell}
 use Rattle.ae_netlist.specs.declared.cell.Cell.TheVariants.{Input, Const, Op, Reg, Mem, Peek}
 use Rattle.ae_netlist.specs.declared.cell.SizedCell.{SizedCell}
 use Rattle.ae_netlist.specs.Circuit.{operand, width_of, OperandsAre, IsNet, IsFormed}
-use Rattle.ae_vread.specs.ModuleTree.{name, constant, part, binary}
-use Rattle.ae_vread.specs.declared.module.BinOp.{BinOp}
-use Rattle.ae_vread.specs.declared.module.BinOp.TheVariants.{Shl as LeftBy, Shr as RightBy}
+use Rattle.ae_vmodule.specs.ModuleTree.{name, constant, part, binary}
+use Rattle.ae_vmodule.specs.declared.module.BinOp.{BinOp}
+use Rattle.ae_vmodule.specs.declared.module.BinOp.TheVariants.{Shl as LeftBy, Shr as RightBy}
 use Rattle.ae_vread.specs.Forms.{IsDrive}
 use Rattle.ae_verilog.specs.NetlistModule.{port_name, cell_name, name_in, net_name, net_value, op_expression, shifted_net, cast_to}
 use Rattle.ae_verilog.specs.Text.{PortFits, CellPortFits}

@@ -8,8 +8,8 @@ use Rattle.ae_netlist.specs.declared.cell.Cell.TheVariants.{Input, Const, Op, Re
 use Rattle.ae_netlist.specs.declared.cell.SizedCell.{SizedCell}
 use Rattle.ae_netlist.specs.declared.cell.Outlet.{Outlet}
 use Rattle.ae_netlist.specs.Circuit.{operand, width_of}
-use Rattle.ae_vread.specs.ModuleTree.{constant, index}
-use Rattle.ae_vread.specs.declared.module.NetKind.{NetKind}
+use Rattle.ae_vmodule.specs.ModuleTree.{constant, index}
+use Rattle.ae_vmodule.specs.declared.module.NetKind.{NetKind}
 use Rattle.ae_vread.specs.Forms.{PortForm, InputHead, OutputHead, ItemForm, ModuleForm, size_of, net_of}
 use Rattle.ae_verilog.specs.NetlistModule as m
 use Rattle.ae_verilog.specs.NetlistModule.{port_name, number_name, net_name, net_value, op_expression, each_numbered}

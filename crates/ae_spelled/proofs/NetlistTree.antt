@@ -9,8 +9,8 @@ use Rattle.ae_netlist.specs.declared.cell.Cell.TheVariants.{Input, Const, Op, Re
 use Rattle.ae_netlist.specs.declared.cell.SizedCell.{SizedCell}
 use Rattle.ae_netlist.specs.declared.cell.Outlet.{Outlet}
 use Rattle.ae_netlist.specs.Circuit.{operand, width_of, CellFits, HaveNets}
-use Rattle.ae_vread.specs.ModuleTree.{constant, index, NetTree, nets}
-use Rattle.ae_vread.specs.declared.module.NetKind.TheVariants.{Memory, Input as InputNet, Wire as WireNet, OutWire as OutWireNet, Reg as RegNet}
+use Rattle.ae_vmodule.specs.ModuleTree.{constant, index, NetTree, nets}
+use Rattle.ae_vmodule.specs.declared.module.NetKind.TheVariants.{Memory, Input as InputNet, Wire as WireNet, OutWire as OutWireNet, Reg as RegNet}
 use Rattle.ae_vread.specs.Forms.{PortForm, ItemForm, size_of, port_nets, item_nets, nets_from, item_of, module_of, IsItem}
 use Rattle.ae_verilog.specs.NetlistModule as m
 use Rattle.ae_verilog.specs.NetlistModule.{port_name, number_name, net_name, net_value, op_expression, each_numbered, input_nets, output_net, declared_nets, inputs_of, declared_from, declaration, assignment, edge, netlist_module, clock_net, drive}

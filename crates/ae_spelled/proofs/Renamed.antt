@@ -2,7 +2,7 @@
 use Rattle.std.proofs.Common.{ℕ, List}
 use Rattle.ae_netlist.specs.Circuit.{Circuit}
 use Rattle.ae_netlist.specs.Runs as netlist
-use Rattle.ae_vread.specs.ModuleTree.{ModuleTree}
+use Rattle.ae_vmodule.specs.ModuleTree.{ModuleTree}
 use Rattle.ae_judge.specs.Names.{is_clock, equations}
 use Rattle.ae_judge.specs.Faults.{Reaches, at_once, through, IsWellFormed}
 use Rattle.ae_runs.specs.Values.{ModuleClock}

@@ -10,9 +10,9 @@ use Rattle.ae_netlist.specs.declared.cell.SizedCell.{SizedCell}
 use Rattle.ae_netlist.specs.declared.cell.Outlet.{Outlet}
 use Rattle.ae_netlist.specs.Circuit.{operand, width_of}
 use Rattle.ae_netlist.specs.Counts.{count_of, is_mul, is_product}
-use Rattle.ae_vread.specs.ModuleTree.{constant, part, binary, ItemTree}
-use Rattle.ae_vread.specs.declared.module.BinOp.{BinOp}
-use Rattle.ae_vread.specs.declared.module.BinOp.TheVariants.{Shl as LeftBy, Shr as RightBy}
+use Rattle.ae_vmodule.specs.ModuleTree.{constant, part, binary, ItemTree}
+use Rattle.ae_vmodule.specs.declared.module.BinOp.{BinOp}
+use Rattle.ae_vmodule.specs.declared.module.BinOp.TheVariants.{Shl as LeftBy, Shr as RightBy}
 use Rattle.ae_vread.specs.Spells.{star, expr_stars, item_stars, stars}
 use Rattle.ae_verilog.specs.NetlistModule.{net_name, net_value, shifted_net, cast_to, op_expression, each_numbered, declaration, assignment, edge, netlist_module}
 

@@ -11,7 +11,7 @@ use Rattle.ae_netlist.specs.Circuit.{operand, width_of, HaveNets}
 use Rattle.ae_word.specs.declared.op.WordOp.{WordOp}
 use Rattle.ae_vtoken.specs.declared.token.Key.TheVariants.{EndModule}
 use Rattle.ae_vtoken.specs.declared.token.Sign.TheVariants.{Comma, Close, Semicolon}
-use Rattle.ae_vread.specs.ModuleTree.{ExprTree, constant, index}
+use Rattle.ae_vmodule.specs.ModuleTree.{ExprTree, constant, index}
 use Rattle.ae_vtoken.specs.Tokens.{TokenTree, Mark, Word, AreTokens, No_more}
 use Rattle.ae_vread.specs.Forms.{PortForm, ItemForm, InputHead, port_tokens, comma_tokens, item_tokens, module_tokens}
 use Rattle.ae_vread.specs.Spells.{Spells}

@@ -4,13 +4,13 @@ use Rattle.std.specs.Prelude.{IsSome, codes, decimal, not, option_map}
 use Rattle.std.proofs.lemmas.Bool.{both_ways}
 use Rattle.ae_vtoken.specs.declared.token.Sign.{Sign}
 use Rattle.ae_vtoken.specs.declared.token.Sign.TheVariants.{OpenBracket, CloseBracket, Colon, Question, Tilde}
-use Rattle.ae_vread.specs.declared.module.UnOp.{UnOp}
-use Rattle.ae_vread.specs.declared.module.UnOp.TheVariants.{Not, Flip}
-use Rattle.ae_vread.specs.declared.module.BinOp.{BinOp}
-use Rattle.ae_vread.specs.declared.module.BinOp.TheVariants.{Mul, Add, Sub, Shl, Shr, Lt, Le, Gt, Ge, Eq, Ne, And, Xor, Or, Both, Either}
+use Rattle.ae_vmodule.specs.declared.module.UnOp.{UnOp}
+use Rattle.ae_vmodule.specs.declared.module.UnOp.TheVariants.{Not, Flip}
+use Rattle.ae_vmodule.specs.declared.module.BinOp.{BinOp}
+use Rattle.ae_vmodule.specs.declared.module.BinOp.TheVariants.{Mul, Add, Sub, Shl, Shr, Lt, Le, Gt, Ge, Eq, Ne, And, Xor, Or, Both, Either}
 use Rattle.ae_vtoken.specs.Tables.{signs}
 use Rattle.ae_vtoken.specs.Tokens.{TokenTree, Name, Mark, Sized, look_up, is_word_start, token_of, IsLongest, AreTokens}
-use Rattle.ae_vread.specs.ModuleTree.{ExprTree, name, constant, place, part, index, unary, binary, choice, concat_one, concat_more}
+use Rattle.ae_vmodule.specs.ModuleTree.{ExprTree, name, constant, place, part, index, unary, binary, choice, concat_one, concat_more}
 use Rattle.ae_vread.specs.ExprForms.{number_value, ExprForm, NameForm, ConstForm, PartForm, IndexForm, PrefixForm, InfixForm, ChoiceForm, LastPart, MoreParts, infix_sign, expr_tokens, expr_of}
 use Rattle.ae_vtoken.proofs.TokenLemmas.{is_lone, spaced, mark, blank_then, token_then}
 use Rattle.ae_verilog.specs.Text.{prefix_text, sign_text, expr_text}

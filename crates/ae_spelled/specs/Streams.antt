@@ -2,7 +2,7 @@
 use Rattle.std.specs.Prelude.{◌≡◌, ℕ, ◌≤◌, IsTrue, List, Some, length}
 use Rattle.std.specs.List.{list_all}
 use Rattle.ae_vtoken.specs.Tokens.{Name, token_of}
-use Rattle.ae_vread.specs.ModuleTree.{ModuleTree}
+use Rattle.ae_vmodule.specs.ModuleTree.{ModuleTree}
 use Rattle.ae_verilog.specs.ReportLines.{is_clean}
 
 -- a name that a module can have: a word of the profile that is not reserved, without `$`, and as long as every tool takes

@@ -9,7 +9,7 @@ ghost use Rattle.ae_netlist.specs.Counts.{count_of, is_mul};
 ghost use Rattle.ae_judge.specs.Faults.{IsWellFormed};
 ghost use Rattle.ae_runs.specs.SameRuns.{HasSameRuns};
 ghost use Rattle.ae_judge.specs.Weight.{weight};
-ghost use Rattle.ae_vread.specs.ModuleTree.{ModuleTree};
+ghost use Rattle.ae_vmodule.specs.ModuleTree.{ModuleTree};
 ghost use Rattle.ae_vread.specs.Spells.{Spells, stars};
 ghost use Rattle.ae_verilog.specs.NetlistModule.{netlist_module};
 ghost use Rattle.ae_verilog.specs.Notes.{ArePrinted, NoteTree, noted_module};

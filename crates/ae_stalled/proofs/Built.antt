@@ -18,7 +18,7 @@ use Rattle.ae_netlist.specs.Circuit.{Circuit}
 use Rattle.ae_netlist.specs.Runs as netlist
 use Rattle.ae_netlist.specs.Runs.{Clock, no_clock, word_at}
 use Rattle.ae_netlist.proofs.Shapes.{clock_shaped}
-use Rattle.ae_vread.specs.ModuleTree.{ModuleTree}
+use Rattle.ae_vmodule.specs.ModuleTree.{ModuleTree}
 use Rattle.ae_runs.specs.Values.{ModuleClock}
 use Rattle.ae_runs.specs.Runs.{IsResetRun, clock_at, idle_clock}
 use Rattle.ae_runs.specs.Runs as module_runs

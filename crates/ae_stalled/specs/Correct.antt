@@ -6,7 +6,7 @@ use Rattle.ae_sttype.specs.StTree.{StTree}
 use Rattle.ae_seq.specs.ProgramTree.{ProgramTree}
 use Rattle.ae_seq.specs.Meaning.{mean}
 use Rattle.ae_rewrite.specs.Interface.{AreValues, HaveLayouts, parameter_types}
-use Rattle.ae_vread.specs.ModuleTree.{ModuleTree}
+use Rattle.ae_vmodule.specs.ModuleTree.{ModuleTree}
 use Rattle.ae_judge.specs.Names.{clock_name}
 use Rattle.ae_runs.specs.Values.{ModuleClock}
 use Rattle.ae_runs.specs.Runs.{clock_at, IsModuleRun}

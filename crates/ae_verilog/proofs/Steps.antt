@@ -9,8 +9,8 @@ use Rattle.ae_word.specs.declared.op.WordOp.{WordOp}
 use Rattle.ae_verilog.specs.NetlistModule.{net_name, net_value, op_expression, cast_to, shifted_net, port_name}
 use Rattle.ae_verilog.specs.Text.{register_edge, memory_edge, expr_text, shift_text, value_text, op_text, is_cast, range_text}
 use Rattle.ae_verilog.proofs.Joining.{one_digit}
-use Rattle.ae_vread.specs.declared.module.BinOp.{BinOp}
-use Rattle.ae_vread.specs.ModuleTree.{binary, constant}
+use Rattle.ae_vmodule.specs.declared.module.BinOp.{BinOp}
+use Rattle.ae_vmodule.specs.ModuleTree.{binary, constant}
 use Rattle.std.specs.List.{flat_map}
 use Rattle.ae_netlist.specs.declared.cell.Outlet.{Outlet}
 use Rattle.ae_verilog.specs.Notes.{NoteTree, lines_of}

@@ -11,12 +11,12 @@ use Rattle.ae_netlist.specs.declared.cell.Cell.TheVariants.{Input, Const, Op, Re
 use Rattle.ae_netlist.specs.declared.cell.SizedCell.{SizedCell}
 use Rattle.ae_netlist.specs.declared.cell.Outlet.{Outlet}
 use Rattle.ae_netlist.specs.Circuit.{operand, width_of}
-use Rattle.ae_vread.specs.ModuleTree.{ExprTree, name, constant, part, index, unary, binary, choice, set, put, when, NetTree, DriveTree, ItemTree, nets, assigns, always, ModuleTree}
-use Rattle.ae_vread.specs.declared.module.NetKind.{NetKind}
-use Rattle.ae_vread.specs.declared.module.NetKind.TheVariants.{Input as InputNet, Wire as WireNet, OutWire as OutWireNet, Reg as RegNet, Memory as MemoryNet}
-use Rattle.ae_vread.specs.declared.module.UnOp.TheVariants.{Flip}
-use Rattle.ae_vread.specs.declared.module.BinOp.{BinOp}
-use Rattle.ae_vread.specs.declared.module.BinOp.TheVariants.{Mul as Times, Add as Plus, Sub as Minus, Shl as LeftBy, Shr as RightBy, Lt as Less, Eq as Same, And as Both, Or as Either, Xor as Differ}
+use Rattle.ae_vmodule.specs.ModuleTree.{ExprTree, name, constant, part, index, unary, binary, choice, set, put, when, NetTree, DriveTree, ItemTree, nets, assigns, always, ModuleTree}
+use Rattle.ae_vmodule.specs.declared.module.NetKind.{NetKind}
+use Rattle.ae_vmodule.specs.declared.module.NetKind.TheVariants.{Input as InputNet, Wire as WireNet, OutWire as OutWireNet, Reg as RegNet, Memory as MemoryNet}
+use Rattle.ae_vmodule.specs.declared.module.UnOp.TheVariants.{Flip}
+use Rattle.ae_vmodule.specs.declared.module.BinOp.{BinOp}
+use Rattle.ae_vmodule.specs.declared.module.BinOp.TheVariants.{Mul as Times, Add as Plus, Sub as Minus, Shl as LeftBy, Shr as RightBy, Lt as Less, Eq as Same, And as Both, Or as Either, Xor as Differ}
 
 -- names
 

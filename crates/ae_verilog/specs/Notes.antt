@@ -5,7 +5,7 @@ use Rattle.ae_sttype.specs.StTree.{StTree, st_tree}
 use Rattle.ae_sttype.specs.TypeText.{st_text}
 use Rattle.ae_netlist.specs.declared.cell.SizedCell.{SizedCell}
 use Rattle.ae_netlist.specs.declared.cell.Outlet.{Outlet}
-use Rattle.ae_vread.specs.ModuleTree.{ModuleTree}
+use Rattle.ae_vmodule.specs.ModuleTree.{ModuleTree}
 use Rattle.ae_verilog.specs.NetlistModule.{netlist_module}
 use Rattle.ae_verilog.specs.declared.notes.Note.{Note}
 use Rattle.ae_verilog.specs.ReportLines.{is_clean}

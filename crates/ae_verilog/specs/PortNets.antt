@@ -3,7 +3,7 @@ use Rattle.std.specs.Prelude.{◌≡◌, ℕ, List, ◌++◌, map, string_bytes}
 use Rattle.std.specs.List.{flat_map}
 use Rattle.ae_netlist.specs.declared.cell.SizedCell.{SizedCell}
 use Rattle.ae_netlist.specs.declared.cell.Outlet.{Outlet}
-use Rattle.ae_vread.specs.ModuleTree.{NetTree}
+use Rattle.ae_vmodule.specs.ModuleTree.{NetTree}
 use Rattle.ae_verilog.specs.declared.interface.PortList.{PortList}
 use Rattle.ae_verilog.specs.NetlistModule.{input_nets, output_net}
 

@@ -1,8 +1,8 @@
 // Declarations: one line for each cell that is no input, in their order, and the notes between them.
 
 ghost use Rattle.std.specs.Prelude.{◌≡◌, ◌<◌, ◌^◌, ◌++◌, ◌&&◌, true, nat_lt, All, map, codes, OnOk, string_bytes};
-ghost use Rattle.ae_vread.specs.ModuleTree.{index, constant};
-ghost use Rattle.ae_vread.specs.declared.module.BinOp.TheVariants.{Lt as Less};
+ghost use Rattle.ae_vmodule.specs.ModuleTree.{index, constant};
+ghost use Rattle.ae_vmodule.specs.declared.module.BinOp.TheVariants.{Lt as Less};
 ghost use Rattle.ae_netlist.specs.Circuit.{width_of};
 ghost use Rattle.ae_verilog.specs.NetlistModule.{op_expression, net_value, net_name, cast_to, binary_nets};
 ghost use Rattle.ae_verilog.specs.Notes.{note_tree, table_line};

@@ -1,7 +1,7 @@
 // The ports of a netlist's module.
 
 ghost use Rattle.std.specs.Prelude.{◌≡◌, ◌++◌, ◌∷◌, [], List, OnOk, IfOk, map, string_bytes};
-ghost use Rattle.ae_vread.specs.ModuleTree.{NetTree};
+ghost use Rattle.ae_vmodule.specs.ModuleTree.{NetTree};
 ghost use Rattle.ae_verilog.specs.NetlistModule.{input_nets, output_net, port_name};
 ghost use Rattle.ae_verilog.specs.PortNets.{HasNets, input_ports, port_nets};
 

@@ -4,10 +4,10 @@ use Rattle.std.specs.Prelude.{nat_le}
 use Rattle.std.proofs.lemmas.Bool.{lt-ltb, le-leb, leb-true, cond-true, cond-false, cases_Bool}
 use Rattle.ae_vtoken.specs.Tokens.{TokenTree, Mark}
 use Rattle.ae_vtoken.specs.declared.token.Sign.TheVariants.{Close, OpenBracket, CloseBracket, CloseBrace, Comma, Colon, Question}
-use Rattle.ae_vread.specs.declared.module.UnOp.{UnOp}
-use Rattle.ae_vread.specs.declared.module.UnOp.TheVariants.{Not, Flip}
-use Rattle.ae_vread.specs.declared.module.BinOp.{BinOp}
-use Rattle.ae_vread.specs.ModuleTree.{ExprTree, index, unary, binary, choice, concat_more}
+use Rattle.ae_vmodule.specs.declared.module.UnOp.{UnOp}
+use Rattle.ae_vmodule.specs.declared.module.UnOp.TheVariants.{Not, Flip}
+use Rattle.ae_vmodule.specs.declared.module.BinOp.{BinOp}
+use Rattle.ae_vmodule.specs.ModuleTree.{ExprTree, index, unary, binary, choice, concat_more}
 use Rattle.ae_vread.specs.ExprForms.{NumberForm, ZeroForm, DecimalForm, ExprForm, NameForm, ConstForm, PartForm, PlaceForm, IndexForm, ParensForm, PrefixForm, InfixForm, ChoiceForm, BracesForm, LastPart, MoreParts, prefix_sign, infix_sign, strength, level, IsFormedExpr, expr_tokens, expr_of, expr_depth}
 use Rattle.ae_vread.specs.TokenTests.{◌>>=◌, after_mark, first_number}
 use Rattle.ae_vread.specs.Reading.{sign_start, StartPrefix, Found, found, Reader, deeper, closed, indexed, selected, named, parts_of, with_part, more_parts, parts, concat_behind, concat_of, braced, operand, prefixed, unary_from, unary_at, joined, after_operator, operators, chosen_of, by_question, chosen, joined_at, expression, whole_expression}

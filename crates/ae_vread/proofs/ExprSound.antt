@@ -5,8 +5,8 @@ use Rattle.std.proofs.lemmas.Bool.{ltb-true, cond-true, cond-false, leb-true, le
 use Rattle.std.proofs.lemmas.Option.{cond_some}
 use Rattle.ae_vtoken.specs.Tokens.{TokenTree, Name, Word, Unused, Zero, Decimal, Sized, Mark}
 use Rattle.ae_vtoken.specs.declared.token.Sign.TheVariants.{Open, Close, OpenBracket, CloseBracket, OpenBrace, CloseBrace, Comma, Colon, Question, Plus, Minus, Star, Amp, Bar, Caret, Tilde, Bang, Less, Greater, AtMost, AtLeast, Same, Differs, BothAmp, BothBar, ShiftLeft, ShiftRight}
-use Rattle.ae_vread.specs.declared.module.BinOp.{BinOp}
-use Rattle.ae_vread.specs.ModuleTree.{ExprTree, name, constant, place, part, index, unary, binary, choice}
+use Rattle.ae_vmodule.specs.declared.module.BinOp.{BinOp}
+use Rattle.ae_vmodule.specs.ModuleTree.{ExprTree, name, constant, place, part, index, unary, binary, choice}
 use Rattle.ae_vread.specs.ExprForms.{number_token, ExprForm, NameForm, ConstForm, PartForm, PlaceForm, IndexForm, ParensForm, PrefixForm, InfixForm, ChoiceForm, BracesForm, LastPart, MoreParts, prefix_sign, infix_sign, strength, level, IsFormedExpr, expr_tokens, expr_of, expr_depth}
 use Rattle.ae_vread.specs.TokenTests.{◌>>=◌, after_mark, first_number}
 use Rattle.ae_vread.specs.Reading.{infix_of, sign_infix, sign_start, start_of, Start, StartName, StartConst, StartOpen, StartBrace, StartPrefix, NoStart, Found, found, Reader, deeper, closed, placed, indexed, selected, named, Parts, parts_of, with_part, by_comma, more_parts, parts, concat_of, braced, operand_from, operand, prefixed, unary_from, unary_at, strong_infix, infix_at, joined, after_operator, operators, chosen_of, by_question, chosen, joined_at, expression, whole_expression}

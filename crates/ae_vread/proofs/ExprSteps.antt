@@ -5,21 +5,21 @@ use Rattle.std.proofs.lemmas.Bool.{cond-true}
 use Rattle.std.proofs.lemmas.List.{map-append}
 use Rattle.ae_vtoken.specs.Tokens.{TokenTree, Sized, Mark}
 use Rattle.ae_vtoken.specs.declared.token.Sign.TheVariants.{Bang, Tilde, Open, Close, CloseBracket, CloseBrace, Colon, Comma, Question}
-use Rattle.ae_vread.specs.ModuleTree.{ExprTree, concat_more, index, part, place, constant}
-use Rattle.ae_vread.specs.Numbered as n
-use Rattle.ae_vread.specs.Numbered.{NumberedExpr, Piece}
-use Rattle.ae_vread.specs.declared.module.BinOp.{BinOp}
-use Rattle.ae_vread.specs.declared.module.UnOp.TheVariants.{Not, Flip}
+use Rattle.ae_vmodule.specs.ModuleTree.{ExprTree, concat_more, index, part, place, constant}
+use Rattle.ae_vmodule.specs.Numbered as n
+use Rattle.ae_vmodule.specs.Numbered.{NumberedExpr, Piece}
+use Rattle.ae_vmodule.specs.declared.module.BinOp.{BinOp}
+use Rattle.ae_vmodule.specs.declared.module.UnOp.TheVariants.{Not, Flip}
 use Rattle.ae_vread.specs.declared.reading.ReadFault.{ReadFault}
 use Rattle.ae_vread.specs.declared.reading.ReadFault.TheVariants.{Syntax, Memory}
 use Rattle.ae_vread.specs.declared.reading.Reader as code
 use Rattle.ae_vread.specs.ExprForms.{strength}
-use Rattle.ae_vread.specs.Words.{Extends}
+use Rattle.ae_vmodule.specs.Words.{Extends}
 use Rattle.ae_vread.specs.TokenTests.{◌>>=◌, after_mark, first_number}
 use Rattle.ae_vread.specs.Reading.{Found, found, Reader, Parts, parts_of, parts, part_then, by_comma, braces, braced, concat_of, concat_behind, deeper, closed, indexed, placed, selected, operand, prefixed, unary_at, infix_at, joined, after_operator, operators, chosen, by_question, chosen_of, joined_at, expression}
 use Rattle.ae_vread.specs.Read.{Fails}
 use Rattle.ae_vread.specs.ReadExpr.{Means, Reads}
-use Rattle.ae_vread.specs.View.{expr_tree}
+use Rattle.ae_vmodule.specs.View.{expr_tree}
 use Rattle.ae_vread.specs.Parts.{MeanAll, concat_parts}
 use Rattle.ae_vread.proofs.Meanings.{deep_then, then_is, extends_by}
 use Rattle.ae_vread.proofs.TokenFronts.{mark_was}

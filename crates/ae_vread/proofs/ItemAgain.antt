@@ -3,14 +3,14 @@ use Rattle.std.proofs.Common.{◌≡◌, ℕ, ◌+◌, ◌≤◌, List, [], ◌�
 use Rattle.std.specs.Prelude.{option_map}
 use Rattle.std.specs.List.{flat_map, AllByRecursion}
 use Rattle.ae_vtoken.specs.Tokens.{TokenTree, Name, Mark}
-use Rattle.ae_vread.specs.ModuleTree.{NetTree, DriveTree, nets, assigns, always}
+use Rattle.ae_vmodule.specs.ModuleTree.{NetTree, DriveTree, nets, assigns, always}
 use Rattle.ae_vread.specs.ExprForms.{NumberForm, ZeroForm, DecimalForm, number_value}
 use Rattle.ae_vread.specs.Forms.{PortHead, InputHead, OutputHead, OutputRegHead, PortForm, DriveForm, RegForm, ItemForm, WireItem, WireDrives, RegItem, AssignItem, AlwaysItem, range_tokens, head_tokens, comma_tokens, name_tokens, port_tokens, drive_tokens, depth_tokens, reg_tokens, item_tokens, net_of, head_kind, port_nets, reg_net, drive_of, item_nets, item_of, IsDrive, IsItem}
 use Rattle.ae_vread.specs.TokenTests.{◌>>=◌, after_mark, after_word}
 use Rattle.ae_vread.specs.ItemReading.{range_from, range, net_by, one_net, comma_net, net_list, reg_from, one_reg, reg_list, with_comma, one_drive, drive_list, port_head, without_wire, output_from, port, port_list, item_found, has_equals, drive_nets, wires, regs, assign_from, item_at, header_found, header_behind, header}
 use Rattle.ae_vread.specs.Places.{header_tokens, IsApart}
-use Rattle.ae_vread.specs.declared.module.NetKind.{NetKind}
-use Rattle.ae_vread.specs.declared.module.NetKind.TheVariants.{Input, Wire, OutWire}
+use Rattle.ae_vmodule.specs.declared.module.NetKind.{NetKind}
+use Rattle.ae_vmodule.specs.declared.module.NetKind.TheVariants.{Input, Wire, OutWire}
 use Rattle.ae_vtoken.specs.declared.token.Key.TheVariants.{Wire as KeyWire, Reg as KeyReg}
 use Rattle.ae_vtoken.specs.declared.token.Sign.TheVariants.{Close, OpenBracket, Comma, Semicolon}
 use Rattle.ae_vread.proofs.ExprAgain.{Ends, whole_again}

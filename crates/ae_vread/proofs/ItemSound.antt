@@ -3,7 +3,7 @@ use Rattle.std.proofs.Common.{◌≡◌, ℕ, ◌+◌, List, [], ◌∷◌, ◌+
 use Rattle.std.specs.List.{flat_map}
 use Rattle.std.proofs.lemmas.Option.{cond_some}
 use Rattle.ae_vtoken.specs.Tokens.{TokenTree, Name, Word, Unused, Zero, Decimal, Sized, Mark}
-use Rattle.ae_vread.specs.ModuleTree.{NetTree, DriveTree, nets, assigns, always}
+use Rattle.ae_vmodule.specs.ModuleTree.{NetTree, DriveTree, nets, assigns, always}
 use Rattle.ae_vread.specs.ExprForms.{NumberForm, number_token, number_value, expr_tokens}
 use Rattle.ae_vread.specs.Forms.{PortHead, InputHead, OutputHead, OutputRegHead, PortForm, ItemForm, WireItem, WireDrives, RegItem, AssignItem, AlwaysItem, range_tokens, head_tokens, comma_tokens, name_tokens, port_tokens, drive_tokens, reg_tokens, item_tokens, head_kind, port_nets, reg_net, drive_of, item_nets, item_of, IsDrive, IsItem}
 use Rattle.ae_vread.specs.TokenTests.{◌>>=◌, after_mark, after_word, first_name, first_number}
@@ -11,8 +11,8 @@ use Rattle.ae_vread.specs.Reading.{Found, whole_expression}
 use Rattle.ae_vread.specs.StmtReading.{StmtFound, whole_statement}
 use Rattle.ae_vread.specs.ItemReading.{Entries, is_zero, after_zero, range_from, range, net_by, one_net, net_behind, comma_net, net_list, reg_kind_of, reg_from, one_reg, reg_list, with_comma, drive_tree_of, one_drive, drive_list, without_wire, output_from, head_from, port_head, port, port_list, ItemFound, item_found, has_equals, drive_nets, wires, regs, assign_from, clock_from, always_from, ItemStart, StartWire, StartReg, StartAssign, StartAlways, NoItemStart, item_start, item_from, item_at, HeaderFound, header_found, header_behind, header}
 use Rattle.ae_vread.specs.Places.{IsApart, IsItemOf, header_tokens}
-use Rattle.ae_vread.specs.declared.module.NetKind.{NetKind}
-use Rattle.ae_vread.specs.declared.module.NetKind.TheVariants.{Input, Wire, OutWire}
+use Rattle.ae_vmodule.specs.declared.module.NetKind.{NetKind}
+use Rattle.ae_vmodule.specs.declared.module.NetKind.TheVariants.{Input, Wire, OutWire}
 use Rattle.ae_vtoken.specs.declared.token.Key.TheVariants.{Module as KeyModule, Input as KeyInput, Output as KeyOutput, Wire as KeyWire, Reg as KeyReg, Assign as KeyAssign, Always as KeyAlways, Posedge}
 use Rattle.ae_vtoken.specs.declared.token.Sign.TheVariants.{Open, Close, OpenBracket, CloseBracket, Comma, Semicolon, Colon, At, Equals}
 use Rattle.ae_vread.proofs.TokenFronts.{bind_some, mark_was, word_was, name_was, IsNumber, number_was}

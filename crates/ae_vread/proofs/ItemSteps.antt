@@ -7,14 +7,14 @@ use Rattle.ae_vtoken.specs.Tokens.{TokenTree}
 use Rattle.ae_vtoken.specs.Ahead.{ahead}
 use Rattle.ae_vtoken.specs.declared.token.Sign.TheVariants.{Open, Close, Semicolon}
 use Rattle.ae_vtoken.specs.declared.token.Key.TheVariants.{Module}
-use Rattle.ae_vread.specs.ModuleTree as m
-use Rattle.ae_vread.specs.ModuleTree.{NetTree, DriveTree}
-use Rattle.ae_vread.specs.declared.module.VNet.{VNet}
-use Rattle.ae_vread.specs.declared.module.Drive.{Drive}
-use Rattle.ae_vread.specs.declared.module.NetKind.TheVariants.{Wire}
+use Rattle.ae_vmodule.specs.ModuleTree as m
+use Rattle.ae_vmodule.specs.ModuleTree.{NetTree, DriveTree}
+use Rattle.ae_vmodule.specs.declared.module.VNet.{VNet}
+use Rattle.ae_vmodule.specs.declared.module.Drive.{Drive}
+use Rattle.ae_vmodule.specs.declared.module.NetKind.TheVariants.{Wire}
 use Rattle.ae_vread.specs.declared.reading.Reader.{Reader}
-use Rattle.ae_vread.specs.Words.{Extends}
-use Rattle.ae_vread.specs.View.{word_at, net_tree, drive_tree}
+use Rattle.ae_vmodule.specs.Words.{Extends}
+use Rattle.ae_vmodule.specs.View.{word_at, net_tree, drive_tree}
 use Rattle.ae_vread.specs.TokenTests.{◌>>=◌, after_mark, after_word, first_name}
 use Rattle.ae_vread.specs.StmtReading.{StmtFound, whole_statement}
 use Rattle.ae_vread.specs.ItemReading.{Entries, item_found, header_found, header_behind, header, port_list, drive_list, net_list, reg_list, net_by, range, wires, reg_item, regs, assign_from, always_from, clock_from, drive_nets, item_at}

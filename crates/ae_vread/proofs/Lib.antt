@@ -9,9 +9,6 @@ pub mod ListLaws
 pub mod ItemAgain
 pub mod ItemSound
 pub mod ModuleLaws
-pub mod PostfixLaws
-pub mod StackLaws
-pub mod WordLaws
 pub mod TokenFirsts
 pub mod Meanings
 pub mod ExprSteps

@@ -4,14 +4,14 @@ use Rattle.std.specs.Prelude.{IfSome}
 use Rattle.std.proofs.lemmas.List.{map-append}
 use Rattle.ae_vtoken.specs.Tokens.{TokenTree}
 use Rattle.ae_vtoken.specs.declared.token.Sign.TheVariants.{OpenBracket, CloseBracket, Colon, Comma}
-use Rattle.ae_vread.specs.ModuleTree.{NetTree}
-use Rattle.ae_vread.specs.declared.module.VNet.{VNet}
-use Rattle.ae_vread.specs.declared.module.NetKind.{NetKind}
+use Rattle.ae_vmodule.specs.ModuleTree.{NetTree}
+use Rattle.ae_vmodule.specs.declared.module.VNet.{VNet}
+use Rattle.ae_vmodule.specs.declared.module.NetKind.{NetKind}
 use Rattle.ae_vread.specs.declared.reading.ReadFault.{ReadFault}
 use Rattle.ae_vread.specs.declared.reading.ReadFault.TheVariants.{Syntax, Memory}
 use Rattle.ae_vread.specs.declared.reading.Reader.{Reader}
-use Rattle.ae_vread.specs.Words.{Extends}
-use Rattle.ae_vread.specs.View.{word_at, net_tree}
+use Rattle.ae_vmodule.specs.Words.{Extends}
+use Rattle.ae_vmodule.specs.View.{word_at, net_tree}
 use Rattle.ae_vread.specs.TokenTests.{◌>>=◌, after_mark, first_name, first_number}
 use Rattle.ae_vread.specs.Reading.{Found, whole_expression}
 use Rattle.ae_vread.specs.ItemReading.{Entries, Step, entries, by_entry, listed, net_by, one_net, comma_net, net_behind, reg_kind_of, reg_from, after_zero, drive_tree_of}

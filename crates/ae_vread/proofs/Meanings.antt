@@ -3,10 +3,10 @@ use Rattle.std.proofs.Common.{◌≡◌, ℕ, ◌<◌, List, [], ◌++◌, Optio
 use Rattle.std.specs.Prelude.{slice_get}
 use Rattle.std.proofs.lemmas.List.{get_or_append_left}
 use Rattle.std.proofs.lemmas.Option.{slice_get_within, get_or_from_slice_get, slice_get-get_or}
-use Rattle.ae_vread.specs.Words.{Extends}
+use Rattle.ae_vmodule.specs.Words.{Extends}
 use Rattle.ae_vread.specs.TokenTests.{◌>>=◌}
 use Rattle.ae_vread.specs.Reading.{deeper}
-use Rattle.ae_vread.specs.View.{word_at}
+use Rattle.ae_vmodule.specs.View.{word_at}
 
 pub no_more : (ws : List (List ℕ)) → Extends ws ws
 no_more ws = ([], sym (append-nil ws))

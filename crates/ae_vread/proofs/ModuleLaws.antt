@@ -2,7 +2,7 @@
 use Rattle.std.proofs.Common.{◌≡◌, ℕ, zero, suc, ◌+◌, ◌<◌, ◌≤◌, List, [], ◌∷◌, ◌++◌, length, length-append, true, false, Option, Some, None, Result, Ok, Err, refl, sym, ap, ◌∙◌, arith, append_assoc, append-nil, map}
 use Rattle.std.specs.List.{flat_map, AllByRecursion}
 use Rattle.ae_vtoken.specs.Tokens.{TokenTree, Name, Word, Mark}
-use Rattle.ae_vread.specs.ModuleTree.{ModuleTree}
+use Rattle.ae_vmodule.specs.ModuleTree.{ModuleTree}
 use Rattle.ae_vread.specs.Forms.{PortForm, port_tokens, port_nets, comma_tokens, ItemForm, WireItem, WireDrives, RegItem, AssignItem, AlwaysItem, item_tokens, item_nets, nets_from, item_of, IsItem, ModuleForm, module_tokens, module_of}
 use Rattle.ae_vread.specs.TokenTests.{after_word}
 use Rattle.ae_vread.specs.ItemReading.{ItemFound, item_found, item_at, HeaderFound, header_found, header, is_last, Held, held_of, with_item, finished, by_item, items, TreeFault, HeaderFault, ItemFault, from_items, from_header, read_module}

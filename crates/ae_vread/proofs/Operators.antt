@@ -4,8 +4,8 @@ use Rattle.std.specs.Prelude.{nat_le}
 use Rattle.std.proofs.lemmas.Bool.{le-leb, lt-leb, cond-true, cond-false, leb-false, cases_Bool}
 use Rattle.ae_vtoken.specs.Tokens.{TokenTree, Mark}
 use Rattle.ae_vtoken.specs.declared.token.Sign.TheVariants.{OpenBracket}
-use Rattle.ae_vread.specs.declared.module.BinOp.{BinOp}
-use Rattle.ae_vread.specs.declared.module.BinOp.TheVariants.{Mul, Add, Sub, Shl, Shr, Lt, Le, Gt, Ge, Eq, Ne, And, Xor, Or, Both, Either}
+use Rattle.ae_vmodule.specs.declared.module.BinOp.{BinOp}
+use Rattle.ae_vmodule.specs.declared.module.BinOp.TheVariants.{Mul, Add, Sub, Shl, Shr, Lt, Le, Gt, Ge, Eq, Ne, And, Xor, Or, Both, Either}
 use Rattle.ae_vread.specs.ExprForms.{infix_sign, strength}
 use Rattle.ae_vread.specs.TokenTests.{after_mark}
 use Rattle.ae_vread.specs.Reading.{infix_of, sign_infix, infix_at, strong_infix}

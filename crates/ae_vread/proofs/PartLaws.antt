@@ -1,11 +1,11 @@
 -- Parts of a concatenation are gathered from the last on.
 use Rattle.std.proofs.Common.{◌≡◌, ℕ, ◌+◌, ◌-◌, ◌<◌, ◌≤◌, List, [], ◌∷◌, ◌++◌, length, take, drop, refl, sym, ap, ◌∙◌, arith, append_assoc}
 use Rattle.std.proofs.lemmas.List.{take-append-drop, length-take-le, length-drop}
-use Rattle.ae_vread.specs.Numbered.{NumberedExpr, Piece, expr}
-use Rattle.ae_vread.specs.Postfix.{step}
+use Rattle.ae_vmodule.specs.Numbered.{NumberedExpr, Piece, expr}
+use Rattle.ae_vmodule.specs.Postfix.{step}
 use Rattle.ae_vread.specs.Parts.{pushed, concat_parts, gather, HasParts}
-use Rattle.ae_vread.specs.Stacks.{HasExpr, HasExprs}
-use Rattle.ae_vread.specs.declared.symbols.Symbol.TheVariants.{One, More}
+use Rattle.ae_vmodule.specs.Stacks.{HasExpr, HasExprs}
+use Rattle.ae_vmodule.specs.declared.symbols.Symbol.TheVariants.{One, More}
 
 pub pushed_last : (ps : List NumberedExpr) (a : NumberedExpr) (below : List Piece) → pushed (ps ++ a ∷ []) below ≡ expr a ∷ pushed ps below
 pushed_last [] a below = refl

@@ -2,14 +2,14 @@
 use Rattle.std.proofs.Common.{◌≡◌, ℕ, List, Result, Ok, Err, refl, sym, ap, ◌∙◌, subst}
 use Rattle.std.specs.Prelude.{IfOk}
 use Rattle.ae_vtoken.specs.Tokens.{TokenTree, AreTokens}
-use Rattle.ae_vread.specs.ModuleTree.{ModuleTree}
+use Rattle.ae_vmodule.specs.ModuleTree.{ModuleTree}
 use Rattle.ae_vread.specs.Forms.{module_tokens}
 use Rattle.ae_vread.specs.Spells.{Spells}
-use Rattle.ae_vread.specs.View.{module_tree}
+use Rattle.ae_vmodule.specs.View.{module_tree}
 use Rattle.ae_vread.specs.ItemReading.{TreeFault, HeaderFault, ItemFault, read_module}
 use Rattle.ae_vread.specs.ReadModule.{GivesRead}
 use Rattle.ae_vread.specs.Refusals.{HasFault, FaultHolds, GivesModule, GivesFault}
-use Rattle.ae_vread.specs.declared.module.VModule.{VModule}
+use Rattle.ae_vmodule.specs.declared.module.VModule.{VModule}
 use Rattle.ae_vread.specs.declared.reader.VFault.{VFault}
 use Rattle.ae_vread.specs.declared.reader.VFault.TheVariants.{BadToken, BadHeader, BadItem, Memory}
 use Rattle.ae_vtoken.proofs.OneList.{one_list, not_both}

@@ -5,16 +5,16 @@ use Rattle.ae_vtoken.specs.Tokens.{TokenTree}
 use Rattle.ae_vtoken.specs.declared.token.Key.TheVariants.{EndModule}
 use Rattle.ae_vread.specs.TokenTests.{after_word}
 use Rattle.ae_vread.specs.ItemReading.{ItemFound, item_at, is_last, Held, held_of, with_item, finished, by_item, items, HeaderFound, header, from_items, from_header, read_module, ItemFault}
-use Rattle.ae_vread.specs.View.{word_at, net_tree, item_tree, module_tree}
-use Rattle.ae_vread.specs.Words.{Extends}
+use Rattle.ae_vmodule.specs.View.{word_at, net_tree, item_tree, module_tree}
+use Rattle.ae_vmodule.specs.Words.{Extends}
 use Rattle.ae_vread.specs.ReadList.{Added}
 use Rattle.ae_vread.specs.ReadModule.{IsHeld}
 use Rattle.ae_vread.specs.Read.{Fails}
 use Rattle.ae_vread.specs.declared.reading.ReadFault.{ReadFault}
 use Rattle.ae_vread.specs.declared.reading.ReadFault.TheVariants.{Syntax}
-use Rattle.ae_vread.specs.declared.module.VNet.{VNet}
-use Rattle.ae_vread.specs.declared.module.VItem.{VItem}
-use Rattle.ae_vread.specs.declared.module.VModule.{VModule}
+use Rattle.ae_vmodule.specs.declared.module.VNet.{VNet}
+use Rattle.ae_vmodule.specs.declared.module.VItem.{VItem}
+use Rattle.ae_vmodule.specs.declared.module.VModule.{VModule}
 use Rattle.ae_vread.specs.declared.reading.Reader.{Reader}
 use Rattle.ae_vread.proofs.Meanings.{no_more, extends_by, extends_same}
 use Rattle.ae_vread.proofs.ItemSteps.{all_mean}

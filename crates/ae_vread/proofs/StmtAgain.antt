@@ -5,7 +5,7 @@ use Rattle.ae_vtoken.specs.Tokens.{TokenTree, Word, Mark}
 use Rattle.ae_vtoken.specs.declared.token.Key.TheVariants.{Else, End}
 use Rattle.ae_vtoken.specs.declared.token.Sign.{Sign}
 use Rattle.ae_vtoken.specs.declared.token.Sign.TheVariants.{Close, CloseBracket, Semicolon, AtMost}
-use Rattle.ae_vread.specs.ModuleTree.{StmtTree, set, put, when, either, block_more, place}
+use Rattle.ae_vmodule.specs.ModuleTree.{StmtTree, set, put, when, either, block_more, place}
 use Rattle.ae_vread.specs.ExprForms.{NumberForm, ZeroForm, DecimalForm, number_value, ExprForm, level, IsFormedExpr, expr_tokens, expr_of, expr_depth}
 use Rattle.ae_vread.specs.StmtForms.{StmtForm, SetForm, PutPlaceForm, PutForm, IfForm, IfElseForm, BlockForm, NoMore, More, is_statement, is_open, IsStatement, test_tokens, stmt_tokens, stmt_of, stmt_depth}
 use Rattle.ae_vread.specs.TokenTests.{◌>>=◌, after_mark, after_word, first_number}

@@ -1,12 +1,12 @@
 -- Statements of a block are gathered from the last on.
 use Rattle.std.proofs.Common.{◌≡◌, ℕ, ◌+◌, ◌-◌, ◌<◌, ◌≤◌, List, [], ◌∷◌, ◌++◌, length, take, drop, refl, sym, ap, ◌∙◌, arith, append_assoc, append-nil}
 use Rattle.std.proofs.lemmas.List.{take-append-drop, length-take-le, length-drop}
-use Rattle.ae_vread.specs.Numbered as n
-use Rattle.ae_vread.specs.Numbered.{NumberedStmt, Piece, stmt}
-use Rattle.ae_vread.specs.Postfix.{step}
+use Rattle.ae_vmodule.specs.Numbered as n
+use Rattle.ae_vmodule.specs.Numbered.{NumberedStmt, Piece, stmt}
+use Rattle.ae_vmodule.specs.Postfix.{step}
 use Rattle.ae_vread.specs.ReadStmt.{pushed_stmts, block_parts, gather_stmts, HasStmts}
-use Rattle.ae_vread.specs.Stacks as stacks
-use Rattle.ae_vread.specs.declared.symbols.Symbol.TheVariants.{Then}
+use Rattle.ae_vmodule.specs.Stacks as stacks
+use Rattle.ae_vmodule.specs.declared.symbols.Symbol.TheVariants.{Then}
 
 pub pushed_last : (ss : List NumberedStmt) (a : NumberedStmt) (below : List Piece) → pushed_stmts (ss ++ a ∷ []) below ≡ stmt a ∷ pushed_stmts ss below
 pushed_last [] a below = refl

@@ -4,7 +4,7 @@ use Rattle.ae_vtoken.specs.Tokens.{TokenTree, Name, Word, Unused, Zero, Decimal,
 use Rattle.ae_vtoken.specs.declared.token.Key.TheVariants.{If, Else, Begin, End}
 use Rattle.ae_vtoken.specs.declared.token.Sign.{Sign}
 use Rattle.ae_vtoken.specs.declared.token.Sign.TheVariants.{Open, Close, OpenBracket, CloseBracket, Semicolon, AtMost}
-use Rattle.ae_vread.specs.ModuleTree.{StmtTree, set, put, when, either, place}
+use Rattle.ae_vmodule.specs.ModuleTree.{StmtTree, set, put, when, either, place}
 use Rattle.ae_vread.specs.ExprForms.{number_token, ExprForm, level, IsFormedExpr, expr_tokens, expr_of, expr_depth}
 use Rattle.ae_vread.specs.StmtForms.{StmtForm, SetForm, PutPlaceForm, PutForm, IfForm, IfElseForm, BlockForm, NoMore, More, is_statement, is_open, IsStatement, test_tokens, stmt_tokens, stmt_of, stmt_depth}
 use Rattle.ae_vread.specs.TokenTests.{◌>>=◌, after_mark, after_word, first_number}

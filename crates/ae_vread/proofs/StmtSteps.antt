@@ -6,17 +6,17 @@ use Rattle.ae_vtoken.specs.Tokens.{TokenTree, Word}
 use Rattle.ae_vtoken.specs.declared.token.Key.TheVariants.{If, Else, End}
 use Rattle.ae_vtoken.specs.declared.token.Sign.{Sign}
 use Rattle.ae_vtoken.specs.declared.token.Sign.TheVariants.{OpenBracket, CloseBracket}
-use Rattle.ae_vread.specs.ModuleTree.{StmtTree, block_more}
-use Rattle.ae_vread.specs.Numbered.{NumberedStmt, Piece}
+use Rattle.ae_vmodule.specs.ModuleTree.{StmtTree, block_more}
+use Rattle.ae_vmodule.specs.Numbered.{NumberedStmt, Piece}
 use Rattle.ae_vread.specs.declared.reading.ReadFault.{ReadFault}
 use Rattle.ae_vread.specs.declared.reading.ReadFault.TheVariants.{Syntax, Memory}
 use Rattle.ae_vread.specs.declared.reading.Reader as code
-use Rattle.ae_vread.specs.Words.{Extends}
+use Rattle.ae_vmodule.specs.Words.{Extends}
 use Rattle.ae_vread.specs.TokenTests.{◌>>=◌, after_mark, after_word, first_number}
 use Rattle.ae_vread.specs.Reading.{Found, found, deeper, whole_expression}
 use Rattle.ae_vread.specs.StmtReading.{StmtFound, stmt_found, StmtReader, Body, body_of, body, by_end, blocked, block_of, block_at, value_then, assigned, test_then, set_from, put_by, put_place, put_from, target_from, with_else, choice_from, alone_of, either_of, statement_at, statement}
 use Rattle.ae_vread.specs.ReadStmt.{MeansStmt, ReadsStmt, MeanAllStmts, block_parts}
-use Rattle.ae_vread.specs.View.{stmt_tree}
+use Rattle.ae_vmodule.specs.View.{stmt_tree}
 use Rattle.ae_vread.proofs.Meanings.{deep_then, then_is, extends_by}
 
 -- what is read on the way is what is read in the end

@@ -3,15 +3,15 @@ use Rattle.std.proofs.Common.{◌≡◌, ℕ, List, [], ◌∷◌, Bool, true, f
 use Rattle.std.specs.Prelude.{codes}
 use Rattle.ae_vtoken.specs.Tables.{signs, keys, unused_0, unused_1, unused_2, unused_3, unused_4, unused_5, unused_6, unused_7, unused_8, unused_9}
 use Rattle.ae_vtoken.specs.Tokens.{token_of}
-use Rattle.ae_vread.specs.ModuleTree.{ExprTree, name, constant, place, part, index, unary, binary, choice, concat_one, concat_more, set, put, when, either, block_end, block_more, NetTree, DriveTree, nets, assigns, always, ModuleTree}
+use Rattle.ae_vmodule.specs.ModuleTree.{ExprTree, name, constant, place, part, index, unary, binary, choice, concat_one, concat_more, set, put, when, either, block_end, block_more, NetTree, DriveTree, nets, assigns, always, ModuleTree}
 use Rattle.ae_vread.specs.ExprForms.{NumberForm, ZeroForm, DecimalForm, ExprForm, NameForm, ConstForm, PartForm, IndexForm, ParensForm, PrefixForm, InfixForm, ChoiceForm, BracesForm, LastPart, MoreParts}
 use Rattle.ae_vread.specs.StmtForms.{SetForm, PutPlaceForm, PutForm, IfForm, IfElseForm, BlockForm, NoMore, More}
 use Rattle.ae_vread.specs.Forms.{PortHead, InputHead, OutputHead, OutputRegHead, PortForm, DriveForm, RegForm, WireDrives, RegItem, AssignItem, AlwaysItem, ModuleForm, module_tokens, IsDrive}
 use Rattle.ae_vread.specs.Spells.{Spells, stars}
-use Rattle.ae_vread.specs.declared.module.NetKind.{NetKind}
-use Rattle.ae_vread.specs.declared.module.NetKind.TheVariants.{Input, Wire, OutWire, Reg, OutReg, Memory}
-use Rattle.ae_vread.specs.declared.module.UnOp.TheVariants.{Not, Flip}
-use Rattle.ae_vread.specs.declared.module.BinOp.TheVariants.{Add, Gt, Eq}
+use Rattle.ae_vmodule.specs.declared.module.NetKind.{NetKind}
+use Rattle.ae_vmodule.specs.declared.module.NetKind.TheVariants.{Input, Wire, OutWire, Reg, OutReg, Memory}
+use Rattle.ae_vmodule.specs.declared.module.UnOp.TheVariants.{Not, Flip}
+use Rattle.ae_vmodule.specs.declared.module.BinOp.TheVariants.{Add, Gt, Eq}
 use Rattle.ae_vtoken.proofs.Scans.{scan, scanned}
 
 abbrev a : List ℕ

@@ -2,13 +2,13 @@
 -- A form is the tree with every free choice of the text, as parentheses.
 use Rattle.std.specs.Prelude.{◌≡◌, ℕ, ◌+◌, ◌<◌, ◌≤◌, List, [], ◌∷◌, ◌++◌, Bool, max}
 use Rattle.ae_vtoken.specs.Tokens.{TokenTree, Name, Zero, Decimal, Sized, Mark}
-use Rattle.ae_vread.specs.ModuleTree.{ExprTree, name, constant, place, part, index, unary, binary, choice, concat_one, concat_more}
+use Rattle.ae_vmodule.specs.ModuleTree.{ExprTree, name, constant, place, part, index, unary, binary, choice, concat_one, concat_more}
 use Rattle.ae_vtoken.specs.declared.token.Sign.{Sign}
 use Rattle.ae_vtoken.specs.declared.token.Sign.TheVariants.{Open, Close, OpenBracket, CloseBracket, OpenBrace, CloseBrace, Comma, Colon, Question, Plus, Minus, Star, Amp, Bar, Caret, Tilde, Bang, Less, Greater, AtMost, AtLeast, Same, Differs, BothAmp, BothBar, ShiftLeft, ShiftRight}
-use Rattle.ae_vread.specs.declared.module.UnOp.{UnOp}
-use Rattle.ae_vread.specs.declared.module.UnOp.TheVariants.{Not, Flip}
-use Rattle.ae_vread.specs.declared.module.BinOp.{BinOp}
-use Rattle.ae_vread.specs.declared.module.BinOp.TheVariants.{Mul, Add, Sub, Shl, Shr, Lt, Le, Gt, Ge, Eq, Ne, And, Xor, Or, Both, Either}
+use Rattle.ae_vmodule.specs.declared.module.UnOp.{UnOp}
+use Rattle.ae_vmodule.specs.declared.module.UnOp.TheVariants.{Not, Flip}
+use Rattle.ae_vmodule.specs.declared.module.BinOp.{BinOp}
+use Rattle.ae_vmodule.specs.declared.module.BinOp.TheVariants.{Mul, Add, Sub, Shl, Shr, Lt, Le, Gt, Ge, Eq, Ne, And, Xor, Or, Both, Either}
 
 -- a decimal number: the text `0`, or another
 pub data NumberForm : Type 0 where

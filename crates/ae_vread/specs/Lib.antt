@@ -1,4 +1,3 @@
-pub mod ModuleTree
 pub mod ExprForms
 pub mod StmtForms
 pub mod Forms
@@ -8,14 +7,7 @@ pub mod Reading
 pub mod StmtReading
 pub mod ItemReading
 pub mod Places
-pub mod Numbered
-pub mod Postfix
-pub mod Roots
-pub mod Stacks
-pub mod Held
-pub mod Words
 pub mod Read
-pub mod View
 pub mod ReadExpr
 pub mod Parts
 pub mod ReadStmt

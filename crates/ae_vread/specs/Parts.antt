@@ -1,14 +1,14 @@
 -- Parts of a concatenation, one behind the other.
 use Rattle.std.specs.Prelude.{◌≡◌, ℕ, zero, suc, ◌≤◌, List, [], ◌∷◌, length, map}
 use Rattle.ae_vtoken.specs.Ahead.{ahead}
-use Rattle.ae_vread.specs.ModuleTree.{ExprTree}
-use Rattle.ae_vread.specs.Numbered.{NumberedExpr, Piece, expr, place, concat_one, concat_more}
-use Rattle.ae_vread.specs.Postfix.{step}
-use Rattle.ae_vread.specs.Held.{held}
-use Rattle.ae_vread.specs.Words.{Extends}
+use Rattle.ae_vmodule.specs.ModuleTree.{ExprTree}
+use Rattle.ae_vmodule.specs.Numbered.{NumberedExpr, Piece, expr, place, concat_one, concat_more}
+use Rattle.ae_vmodule.specs.Postfix.{step}
+use Rattle.ae_vmodule.specs.Held.{held}
+use Rattle.ae_vmodule.specs.Words.{Extends}
 use Rattle.ae_vread.specs.Reading.{Parts}
-use Rattle.ae_vread.specs.View.{expr_tree}
-use Rattle.ae_vread.specs.declared.symbols.Symbol.TheVariants.{One, More}
+use Rattle.ae_vmodule.specs.View.{expr_tree}
+use Rattle.ae_vmodule.specs.declared.symbols.Symbol.TheVariants.{One, More}
 use Rattle.ae_vread.specs.declared.reading.Reader.{Reader}
 
 -- expressions on top of pieces, the last on top

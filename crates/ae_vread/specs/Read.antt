@@ -3,8 +3,8 @@ use Rattle.std.specs.Prelude.{◌≡◌, ℕ, true, false, List, Option, Some, N
 use Rattle.ae_vtoken.specs.Tokens.{TokenTree}
 use Rattle.ae_vread.specs.TokenTests.{first_name}
 use Rattle.ae_vread.specs.ItemReading.{one_more}
-use Rattle.ae_vread.specs.declared.module.VNet.{VNet}
-use Rattle.ae_vread.specs.declared.module.NetKind.{NetKind}
+use Rattle.ae_vmodule.specs.declared.module.VNet.{VNet}
+use Rattle.ae_vmodule.specs.declared.module.NetKind.{NetKind}
 use Rattle.ae_vread.specs.declared.reading.ReadFault.{ReadFault}
 use Rattle.ae_vread.specs.declared.reading.ReadFault.TheVariants.{Syntax, Memory}
 

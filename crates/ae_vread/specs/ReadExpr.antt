@@ -1,12 +1,12 @@
 -- What the readers of expressions give, apart from where it lies in memory.
 use Rattle.std.specs.Prelude.{◌≡◌, ℕ, ◌+◌, List, ◌∷◌, length, Option, Some, Result, Ok, Err}
 use Rattle.ae_vtoken.specs.Ahead.{ahead}
-use Rattle.ae_vread.specs.ModuleTree.{ExprTree}
-use Rattle.ae_vread.specs.Numbered.{NumberedExpr, Piece, expr}
-use Rattle.ae_vread.specs.View.{expr_tree}
-use Rattle.ae_vread.specs.Held.{held}
-use Rattle.ae_vread.specs.Stacks.{size_of}
-use Rattle.ae_vread.specs.Words.{Extends}
+use Rattle.ae_vmodule.specs.ModuleTree.{ExprTree}
+use Rattle.ae_vmodule.specs.Numbered.{NumberedExpr, Piece, expr}
+use Rattle.ae_vmodule.specs.View.{expr_tree}
+use Rattle.ae_vmodule.specs.Held.{held}
+use Rattle.ae_vmodule.specs.Stacks.{size_of}
+use Rattle.ae_vmodule.specs.Words.{Extends}
 use Rattle.ae_vread.specs.Reading.{Found}
 use Rattle.ae_vread.specs.Read.{Fails}
 use Rattle.ae_vread.specs.declared.reading.Reader.{Reader}

@@ -2,14 +2,14 @@
 use Rattle.std.specs.Prelude.{◌≡◌, ℕ, List, ◌++◌, map, slice_get, Bool, true, false, Option, Some, None, Result, Ok, Err}
 use Rattle.ae_vtoken.specs.Tokens.{TokenTree}
 use Rattle.ae_vtoken.specs.Ahead.{ahead}
-use Rattle.ae_vread.specs.Words.{Extends}
+use Rattle.ae_vmodule.specs.Words.{Extends}
 use Rattle.ae_vread.specs.Read.{Fails, net_of}
 use Rattle.ae_vread.specs.ItemReading.{Entries, HeaderFound, ItemFound}
-use Rattle.ae_vread.specs.View.{net_tree, item_tree}
-use Rattle.ae_vread.specs.declared.module.VNet.{VNet}
-use Rattle.ae_vread.specs.declared.module.VItem.{VItem}
-use Rattle.ae_vread.specs.declared.module.Drive.{Drive}
-use Rattle.ae_vread.specs.declared.module.NetKind.TheVariants.{Wire}
+use Rattle.ae_vmodule.specs.View.{net_tree, item_tree}
+use Rattle.ae_vmodule.specs.declared.module.VNet.{VNet}
+use Rattle.ae_vmodule.specs.declared.module.VItem.{VItem}
+use Rattle.ae_vmodule.specs.declared.module.Drive.{Drive}
+use Rattle.ae_vmodule.specs.declared.module.NetKind.TheVariants.{Wire}
 use Rattle.ae_vread.specs.declared.reading.Reader.{Reader}
 use Rattle.ae_vread.specs.declared.reading.ReadFault.{ReadFault}
 use Rattle.ae_vread.specs.declared.reading.ReadFault.TheVariants.{Memory}

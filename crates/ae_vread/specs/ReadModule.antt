@@ -2,13 +2,13 @@
 use Rattle.std.specs.Prelude.{◌≡◌, ℕ, List, map, Result, Ok, Err}
 use Rattle.std.specs.Global.{Vec}
 use Rattle.ae_vtoken.specs.Ahead.{ahead}
-use Rattle.ae_vread.specs.ModuleTree.{ModuleTree}
+use Rattle.ae_vmodule.specs.ModuleTree.{ModuleTree}
 use Rattle.ae_vread.specs.ItemReading.{Held, TreeFault, HeaderFault, ItemFault}
-use Rattle.ae_vread.specs.View.{net_tree, item_tree, module_tree}
-use Rattle.ae_vread.specs.Words.{Extends}
-use Rattle.ae_vread.specs.declared.module.VNet.{VNet}
-use Rattle.ae_vread.specs.declared.module.VItem.{VItem}
-use Rattle.ae_vread.specs.declared.module.VModule.{VModule}
+use Rattle.ae_vmodule.specs.View.{net_tree, item_tree, module_tree}
+use Rattle.ae_vmodule.specs.Words.{Extends}
+use Rattle.ae_vmodule.specs.declared.module.VNet.{VNet}
+use Rattle.ae_vmodule.specs.declared.module.VItem.{VItem}
+use Rattle.ae_vmodule.specs.declared.module.VModule.{VModule}
 use Rattle.ae_vread.specs.declared.reading.Reader.{Reader}
 use Rattle.ae_vread.specs.declared.reader.VFault.{VFault}
 use Rattle.ae_vread.specs.declared.reader.VFault.TheVariants.{BadToken, BadHeader, BadItem, Memory}

@@ -1,18 +1,18 @@
 -- What the readers of statements give, apart from where it lies in memory.
 use Rattle.std.specs.Prelude.{◌≡◌, ℕ, zero, suc, List, [], ◌∷◌, length, map, Option, Some, Result, Ok, Err}
 use Rattle.ae_vtoken.specs.Ahead.{ahead}
-use Rattle.ae_vread.specs.ModuleTree.{StmtTree}
-use Rattle.ae_vread.specs.Numbered as n
-use Rattle.ae_vread.specs.Numbered.{NumberedExpr, NumberedStmt, Piece, expr, stmt}
-use Rattle.ae_vread.specs.Postfix.{step}
-use Rattle.ae_vread.specs.Held.{held}
-use Rattle.ae_vread.specs.Words.{Extends}
+use Rattle.ae_vmodule.specs.ModuleTree.{StmtTree}
+use Rattle.ae_vmodule.specs.Numbered as n
+use Rattle.ae_vmodule.specs.Numbered.{NumberedExpr, NumberedStmt, Piece, expr, stmt}
+use Rattle.ae_vmodule.specs.Postfix.{step}
+use Rattle.ae_vmodule.specs.Held.{held}
+use Rattle.ae_vmodule.specs.Words.{Extends}
 use Rattle.ae_vread.specs.Reading.{Found}
 use Rattle.ae_vread.specs.StmtReading.{StmtFound, Body}
 use Rattle.ae_vread.specs.Read.{Fails}
 use Rattle.ae_vread.specs.ReadExpr.{Means}
-use Rattle.ae_vread.specs.View.{stmt_tree}
-use Rattle.ae_vread.specs.declared.symbols.Symbol.TheVariants.{End, Then}
+use Rattle.ae_vmodule.specs.View.{stmt_tree}
+use Rattle.ae_vmodule.specs.declared.symbols.Symbol.TheVariants.{End, Then}
 use Rattle.ae_vread.specs.declared.reading.Reader.{Reader}
 use Rattle.ae_vread.specs.declared.reading.ReadFault.{ReadFault}
 

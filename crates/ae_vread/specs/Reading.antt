@@ -1,15 +1,15 @@
 -- Reading an expression from a list of tokens, from the left, by the strengths of the operators.
 use Rattle.std.specs.Prelude.{ℕ, zero, suc, ◌+◌, List, [], ◌∷◌, ◌++◌, Bool, max, length, Option, Some, None, if◌then◌else◌, nat_lt, nat_le}
 use Rattle.ae_vtoken.specs.Tokens.{TokenTree, Name, Sized, Mark}
-use Rattle.ae_vread.specs.ModuleTree.{ExprTree, name, constant, place, part, index, unary, binary, choice, concat_one, concat_more}
+use Rattle.ae_vmodule.specs.ModuleTree.{ExprTree, name, constant, place, part, index, unary, binary, choice, concat_one, concat_more}
 use Rattle.ae_vread.specs.ExprForms.{strength}
 use Rattle.ae_vread.specs.TokenTests.{◌>>=◌, after_mark, first_number}
 use Rattle.ae_vtoken.specs.declared.token.Sign.{Sign}
 use Rattle.ae_vtoken.specs.declared.token.Sign.TheVariants.{Open, OpenBracket, CloseBracket, OpenBrace, CloseBrace, Close, Comma, Question, Colon, Plus, Minus, Star, Amp, Bar, Caret, Tilde, Bang, Less, Greater, AtMost, AtLeast, Same, Differs, BothAmp, BothBar, ShiftLeft, ShiftRight}
-use Rattle.ae_vread.specs.declared.module.UnOp.{UnOp}
-use Rattle.ae_vread.specs.declared.module.UnOp.TheVariants.{Not, Flip}
-use Rattle.ae_vread.specs.declared.module.BinOp.{BinOp}
-use Rattle.ae_vread.specs.declared.module.BinOp.TheVariants.{Mul, Add, Sub, Shl, Shr, Lt, Le, Gt, Ge, Eq, Ne, And, Xor, Or, Both, Either}
+use Rattle.ae_vmodule.specs.declared.module.UnOp.{UnOp}
+use Rattle.ae_vmodule.specs.declared.module.UnOp.TheVariants.{Not, Flip}
+use Rattle.ae_vmodule.specs.declared.module.BinOp.{BinOp}
+use Rattle.ae_vmodule.specs.declared.module.BinOp.TheVariants.{Mul, Add, Sub, Shl, Shr, Lt, Le, Gt, Ge, Eq, Ne, And, Xor, Or, Both, Either}
 
 -- the operator that a sign is
 abbrev pub sign_infix : Sign → Option BinOp

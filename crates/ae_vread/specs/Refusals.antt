@@ -1,10 +1,10 @@
 -- What the reader answers to a text.
 use Rattle.std.specs.Prelude.{◌≡◌, ℕ, List, Result, Ok, Err}
 use Rattle.ae_vtoken.specs.Tokens.{TokenTree, AreTokens, IsBadToken}
-use Rattle.ae_vread.specs.ModuleTree.{ModuleTree}
+use Rattle.ae_vmodule.specs.ModuleTree.{ModuleTree}
 use Rattle.ae_vread.specs.Places.{IsBadHeader, IsBadItem}
-use Rattle.ae_vread.specs.View.{module_tree}
-use Rattle.ae_vread.specs.declared.module.VModule.{VModule}
+use Rattle.ae_vmodule.specs.View.{module_tree}
+use Rattle.ae_vmodule.specs.declared.module.VModule.{VModule}
 use Rattle.ae_vread.specs.declared.reader.VFault.{VFault}
 use Rattle.ae_vread.specs.declared.reader.VFault.TheVariants.{BadToken, BadHeader, BadItem, Memory}
 

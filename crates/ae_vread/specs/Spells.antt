@@ -3,9 +3,9 @@ use Rattle.std.specs.Prelude.{◌≡◌, ℕ, ◌+◌, List, sum_by}
 use Rattle.std.specs.List.{AllByRecursion}
 use Rattle.ae_vtoken.specs.Tokens.{AreTokens}
 use Rattle.ae_vread.specs.Forms.{ModuleForm, module_tokens, module_of, IsItem}
-use Rattle.ae_vread.specs.ModuleTree.{ExprTree, name, constant, place, part, index, unary, binary, choice, concat_one, concat_more, StmtTree, set, put, when, either, block_end, block_more, DriveTree, ItemTree, nets, assigns, always, ModuleTree}
-use Rattle.ae_vread.specs.declared.module.BinOp.{BinOp}
-use Rattle.ae_vread.specs.declared.module.BinOp.TheVariants.{Mul, Add, Sub, Shl, Shr, Lt, Le, Gt, Ge, Eq, Ne, And, Xor, Or, Both, Either}
+use Rattle.ae_vmodule.specs.ModuleTree.{ExprTree, name, constant, place, part, index, unary, binary, choice, concat_one, concat_more, StmtTree, set, put, when, either, block_end, block_more, DriveTree, ItemTree, nets, assigns, always, ModuleTree}
+use Rattle.ae_vmodule.specs.declared.module.BinOp.{BinOp}
+use Rattle.ae_vmodule.specs.declared.module.BinOp.TheVariants.{Mul, Add, Sub, Shl, Shr, Lt, Le, Gt, Ge, Eq, Ne, And, Xor, Or, Both, Either}
 
 -- the text is a form of the module, token by token
 pub record Spells (text : List ℕ) (m : ModuleTree) : Type 0 where

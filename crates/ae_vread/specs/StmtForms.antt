@@ -1,7 +1,7 @@
 -- How a statement is written, and the tree that its tokens stand for (IEEE 1364-2001, narrowed to the profile).
 use Rattle.std.specs.Prelude.{◌≡◌, ℕ, ◌+◌, ◌≤◌, List, [], ◌∷◌, ◌++◌, Bool, true, false, max}
 use Rattle.ae_vtoken.specs.Tokens.{TokenTree, Name, Word, Mark}
-use Rattle.ae_vread.specs.ModuleTree.{StmtTree, set, put, when, either, block_end, block_more, place}
+use Rattle.ae_vmodule.specs.ModuleTree.{StmtTree, set, put, when, either, block_end, block_more, place}
 use Rattle.ae_vread.specs.ExprForms.{NumberForm, number_token, number_value, ExprForm, level, IsFormedExpr, expr_tokens, expr_of, expr_depth}
 use Rattle.ae_vtoken.specs.declared.token.Key.TheVariants.{If, Else, Begin, End}
 use Rattle.ae_vtoken.specs.declared.token.Sign.TheVariants.{Open, Close, OpenBracket, CloseBracket, Semicolon, AtMost}

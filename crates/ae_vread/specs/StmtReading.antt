@@ -1,7 +1,7 @@
 -- Reading a statement from a list of tokens, from the left.
 use Rattle.std.specs.Prelude.{ℕ, zero, suc, ◌+◌, List, [], ◌∷◌, ◌++◌, max, length, Option, Some, None}
 use Rattle.ae_vtoken.specs.Tokens.{TokenTree, Name, Word}
-use Rattle.ae_vread.specs.ModuleTree.{StmtTree, set, put, when, either, block_end, block_more, place}
+use Rattle.ae_vmodule.specs.ModuleTree.{StmtTree, set, put, when, either, block_end, block_more, place}
 use Rattle.ae_vread.specs.TokenTests.{◌>>=◌, after_mark, after_word, first_number}
 use Rattle.ae_vread.specs.Reading.{Found, found, deeper, whole_expression}
 use Rattle.ae_vtoken.specs.declared.token.Key.TheVariants.{If, Else, Begin, End}

@@ -4,18 +4,18 @@ ghost use Rattle.std.specs.Prelude.{◌≡◌, ◌+◌, ◌<◌, ◌^◌, ℕ, L
 ghost use Rattle.ae_vtoken.specs.Ahead.{ahead};
 ghost use Rattle.ae_vtoken.specs.Scan.{token_view};
 ghost use Rattle.ae_vread.specs.ExprForms.{strength};
-ghost use Rattle.ae_vread.specs.Held.{held};
-ghost use Rattle.ae_vread.specs.Numbered.{NumberedExpr, Piece, expr};
+ghost use Rattle.ae_vmodule.specs.Held.{held};
+ghost use Rattle.ae_vmodule.specs.Numbered.{NumberedExpr, Piece, expr};
 ghost use Rattle.ae_vread.specs.TokenTests.{after_mark, first_number};
 ghost use Rattle.ae_vread.specs.Parts.{HasParts, concat_parts, pushed};
 ghost use Rattle.ae_vtoken.specs.declared.token.Sign.TheVariants.{Colon, OpenBracket};
 ghost use Rattle.ae_vread.specs.declared.reading.ReadFault.TheVariants.{Memory};
 ghost use Rattle.ae_vread.specs.Reading.{Found, braces, chosen, chosen_of, closed, expression, indexed, infix_at, infix_of_first, joined, joined_at, named, operand, placed, prefixed, selected, sign_infix, unary_at, whole_expression};
 ghost use Rattle.ae_vread.specs.ReadExpr.{Holds, HoldsThree, HoldsTwo, Reads, used};
-ghost use Rattle.ae_vread.specs.Stacks.{HasChoice, HasExpr, HasExprs};
+ghost use Rattle.ae_vmodule.specs.Stacks.{HasChoice, HasExpr, HasExprs};
 
-use crate::module::{BinOp, UnOp};
 use crate::reading::{ReadFault, Reader, deeper};
+use ae_vmodule::{BinOp, UnOp};
 use ae_vtoken::{Sign, Token};
 
 impl Reader<'_> {

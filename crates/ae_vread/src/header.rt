@@ -3,16 +3,16 @@
 ghost use Rattle.std.specs.Prelude.{◌≡◌, ◌≤◌, ◌+◌, OnOk, length};
 ghost use Rattle.ae_vtoken.specs.Ahead.{ahead};
 ghost use Rattle.ae_vtoken.specs.declared.token.Key.TheVariants.{Wire as KeyWire, Reg as KeyReg};
-ghost use Rattle.ae_vread.specs.Held.{held};
+ghost use Rattle.ae_vmodule.specs.Held.{held};
 ghost use Rattle.ae_vread.specs.ItemReading.{header, output_from, port, port_head, port_list, with_comma, without_wire};
 ghost use Rattle.ae_vread.specs.Read.{Heads};
 ghost use Rattle.ae_vread.specs.ReadExpr.{used};
 ghost use Rattle.ae_vread.specs.ReadList.{ReadsHeader, ReadsList, StepsList};
 ghost use Rattle.ae_vread.specs.TokenTests.{after_word};
-ghost use Rattle.ae_vread.specs.View.{net_tree};
+ghost use Rattle.ae_vmodule.specs.View.{net_tree};
 
-use crate::module::{NetKind, VNet};
 use crate::reading::{ReadFault, Reader};
+use ae_vmodule::{NetKind, VNet};
 use ae_vtoken::{Key, Sign};
 
 impl Reader<'_> {

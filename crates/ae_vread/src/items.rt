@@ -2,17 +2,17 @@
 
 ghost use Rattle.std.specs.Prelude.{◌≡◌, ◌≤◌, List, OnOk, length, true, false};
 ghost use Rattle.ae_vtoken.specs.Ahead.{ahead};
-ghost use Rattle.ae_vread.specs.Held.{held};
+ghost use Rattle.ae_vmodule.specs.Held.{held};
 ghost use Rattle.ae_vread.specs.ItemReading.{always_from, assign_from, clock_from, has_equals, item_at, reg_item, wire_item, wires};
 ghost use Rattle.ae_vread.specs.Read.{Clocks};
 ghost use Rattle.ae_vread.specs.ReadExpr.{used};
 ghost use Rattle.ae_vread.specs.ReadList.{Declares, ReadsItem};
-ghost use Rattle.ae_vread.specs.Words.{Extends};
-ghost use Rattle.ae_vread.specs.declared.module.VNet.{VNet};
+ghost use Rattle.ae_vmodule.specs.Words.{Extends};
+ghost use Rattle.ae_vmodule.specs.declared.module.VNet.{VNet};
 
 use crate::lists::net;
-use crate::module::{Drive, NetKind, VItem, VNet};
 use crate::reading::{ReadFault, Reader, is_mark};
+use ae_vmodule::{Drive, NetKind, VItem, VNet};
 use ae_vtoken::{Key, Sign, Token};
 use std::alloc::Global;
 

@@ -5,17 +5,9 @@ mod expressions;
 mod header;
 mod items;
 mod lists;
-mod module;
 mod reader;
 mod reading;
-mod roots;
-mod stack;
 mod statements;
-mod symbols;
-mod words;
 
 pub use ae_vtoken::{BadToken, Key, Sign, Token};
-pub use module::{BinOp, Drive, NetKind, UnOp, VItem, VModule, VNet};
 pub use reader::{VFault, read};
-pub use symbols::{Code, Expr, Root, Stmt, StmtCode, StmtRoot, Symbol};
-pub use words::Words;

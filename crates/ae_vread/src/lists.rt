@@ -3,17 +3,17 @@
 ghost use Rattle.std.specs.Prelude.{◌≡◌, ◌≤◌, ◌+◌, ℕ, List, OnOk, Some, length, option_map, slice_get};
 ghost use Rattle.ae_vtoken.specs.Ahead.{ahead};
 ghost use Rattle.ae_vread.specs.ItemReading.{after_zero, comma_net, drive_list, drive_tree_of, is_zero_first, net_by, net_list, one_drive, one_more, one_net, one_reg, range, reg_from, reg_list, with_comma};
-ghost use Rattle.ae_vread.specs.Held.{held};
+ghost use Rattle.ae_vmodule.specs.Held.{held};
 ghost use Rattle.ae_vread.specs.ReadExpr.{used};
 ghost use Rattle.ae_vread.specs.ReadList.{ReadsList, StepsList};
-ghost use Rattle.ae_vread.specs.View.{drive_tree, net_tree};
+ghost use Rattle.ae_vmodule.specs.View.{drive_tree, net_tree};
 ghost use Rattle.ae_vtoken.specs.declared.token.Sign.TheVariants.{OpenBracket};
 ghost use Rattle.ae_vread.specs.TokenTests.{after_mark, first_number};
 ghost use Rattle.ae_vtoken.specs.Scan.{token_view};
 ghost use Rattle.ae_vread.specs.Read.{Numbers, Ranges, Steps, net_of};
 
-use crate::module::{Drive, NetKind, VNet};
 use crate::reading::{ReadFault, Reader};
+use ae_vmodule::{Drive, NetKind, VNet};
 use ae_vtoken::{Sign, Token};
 
 /// One more, up to the greatest `u32`.

@@ -4,19 +4,17 @@ ghost use Rattle.std.specs.Prelude.{◌≡◌, ◌<◌, ◌^◌, [], length, IfO
 ghost use Rattle.ae_vtoken.specs.Ahead.{ahead};
 ghost use Rattle.ae_vtoken.specs.declared.token.Key.TheVariants.{EndModule};
 ghost use Rattle.ae_vread.specs.ItemReading.{Held as HeldItems, is_last, items, read_module};
-ghost use Rattle.ae_vread.specs.ModuleTree.{ModuleTree};
+ghost use Rattle.ae_vmodule.specs.ModuleTree.{ModuleTree};
 ghost use Rattle.ae_vread.specs.ReadModule.{GivesItems, GivesRead, IsHeld};
 ghost use Rattle.ae_vread.specs.Refusals.{HasFault, FaultHolds, GivesModule, GivesFault};
 ghost use Rattle.ae_vread.specs.Spells.{Spells};
 ghost use Rattle.ae_vread.specs.TokenTests.{after_word};
-ghost use Rattle.ae_vread.specs.View.{module_tree};
+ghost use Rattle.ae_vmodule.specs.View.{module_tree};
 ghost use Rattle.ae_vread.specs.declared.reader.VFault.{VFault};
 
-use crate::module::{VItem, VModule, VNet};
 use crate::reading::{ReadFault, Reader, is_word};
-use crate::stack::Stack;
-use crate::words::Words;
 use ae_keyed::Keyed;
+use ae_vmodule::{Stack, VItem, VModule, VNet, Words};
 use ae_vtoken::{BadToken, Key, Tokens};
 use std::alloc::{AllocError, AllocFailed, Global};
 

@@ -2,16 +2,15 @@
 
 ghost use Rattle.std.specs.Prelude.{◌≡◌, ◌<◌, ◌+◌, ◌^◌, length, drop, true, false, Some, None, IfErr, IfOk, IfSome, IfNone, OnOk, option_map};
 ghost use Rattle.ae_vtoken.specs.Ahead.{ahead};
-ghost use Rattle.ae_vread.specs.Held.{held};
-ghost use Rattle.ae_vread.specs.Stacks.{size_of};
+ghost use Rattle.ae_vmodule.specs.Held.{held};
+ghost use Rattle.ae_vmodule.specs.Stacks.{size_of};
 ghost use Rattle.ae_vread.specs.TokenTests.{after_mark, after_word, first_name, first_number, is_mark_first, is_word_first, name_of_first, number_of_first};
 ghost use Rattle.ae_vread.specs.Reading.{deeper};
 ghost use Rattle.ae_vread.specs.Read.{Deepens, Fails, IsNamed, Steps};
 ghost use Rattle.ae_vtoken.specs.Scan.{token_view};
-ghost use Rattle.ae_vread.specs.Words.{Extends};
+ghost use Rattle.ae_vmodule.specs.Words.{Extends};
 
-use crate::stack::Stack;
-use crate::words::Words;
+use ae_vmodule::{Stack, Words};
 use ae_vtoken::{Key, Sign, Token, Tokens};
 use std::alloc::{AllocError, AllocFailed};
 

@@ -3,12 +3,12 @@
 ghost use Rattle.std.specs.Prelude.{◌≡◌, ◌+◌, ◌<◌, ◌≤◌, ◌^◌, ℕ, List, ◌∷◌, IfErr, OnOk, Some, length, slice_get};
 ghost use Rattle.ae_vtoken.specs.Ahead.{ahead};
 ghost use Rattle.ae_vtoken.specs.declared.token.Sign.TheVariants.{OpenBracket};
-ghost use Rattle.ae_vread.specs.Held.{held};
-ghost use Rattle.ae_vread.specs.Numbered.{NumberedStmt, Piece, stmt};
+ghost use Rattle.ae_vmodule.specs.Held.{held};
+ghost use Rattle.ae_vmodule.specs.Numbered.{NumberedStmt, Piece, stmt};
 ghost use Rattle.ae_vread.specs.ReadExpr.{Holds, HoldsTwo, Reads, used};
 ghost use Rattle.ae_vread.specs.ReadStmt.{HasStmts, HoldsEither, HoldsPlace, HoldsWhen, ReadsStmt, block_parts, pushed_stmts};
 ghost use Rattle.ae_vread.specs.Reading.{Found};
-ghost use Rattle.ae_vread.specs.Stacks.{HasEither, HasExpr, HasExprs, HasWhen};
+ghost use Rattle.ae_vmodule.specs.Stacks.{HasEither, HasExpr, HasExprs, HasWhen};
 ghost use Rattle.ae_vread.specs.StmtReading.{StmtFound, alone_of, assigned, block_at, choice_from, either_of, put_by, put_from, put_place, set_from, statement, statement_at, target_from, test_then, value_then, whole_statement};
 ghost use Rattle.ae_vread.specs.TokenTests.{after_mark, first_number};
 ghost use Rattle.ae_vread.specs.declared.reading.ReadFault.TheVariants.{Memory};

@@ -2,7 +2,8 @@
 
 use crate::names::is_known;
 use crate::places::{place_of, push_place, text_of};
-use ae_vread::{VModule, read};
+use ae_vmodule::VModule;
+use ae_vread::read;
 use std::alloc::{AllocError, Global};
 
 /// What is wrong with a Verilog text: the byte, item or declared name at fault. The header is item 0.

@@ -1,6 +1,6 @@
 // Modules as trees, with their names.
 
-use ae_vread::{Drive, Expr, Root, Stmt, StmtRoot, VItem, VModule, Words};
+use ae_vmodule::{Drive, Expr, Root, Stmt, StmtRoot, VItem, VModule, Words};
 use ae_vtoken::Tokens;
 use std::alloc::{AllocError, Global};
 

@@ -1,9 +1,9 @@
 use Rattle.std.proofs.Common.{◌≡◌, ◌+◌, ◌*◌, rules, sym, ap, subst, arith}
-use Rattle.ae_vread.specs.ModuleTree.{block_more, either, when}
-use Rattle.ae_vread.specs.Numbered as n
-use Rattle.ae_vread.specs.Numbered.{NumberedStmt, parts_in_stmt}
-use Rattle.ae_vread.specs.Roots.{numbered, numbered_stmt}
-use Rattle.ae_vread.specs.View.{expr_tree, stmt_tree}
+use Rattle.ae_vmodule.specs.ModuleTree.{block_more, either, when}
+use Rattle.ae_vmodule.specs.Numbered as n
+use Rattle.ae_vmodule.specs.Numbered.{NumberedStmt, parts_in_stmt}
+use Rattle.ae_vmodule.specs.Roots.{numbered, numbered_stmt}
+use Rattle.ae_vmodule.specs.View.{expr_tree, stmt_tree}
 use Rattle.ae_judge.specs.Names.{stmt_targets}
 use Rattle.ae_judge.specs.Weight.{stmt_weight}
 use Rattle.ae_gates.specs.Cells.{HasRoom}

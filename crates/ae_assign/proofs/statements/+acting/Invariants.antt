@@ -1,8 +1,8 @@
 use Rattle.std.proofs.Common.{◌≤◌, ◌+◌, ◌*◌}
-use Rattle.ae_vread.specs.ModuleTree.{block_more}
-use Rattle.ae_vread.specs.Numbered.{parts_in_stmt}
-use Rattle.ae_vread.specs.Roots.{numbered_stmt}
-use Rattle.ae_vread.specs.View.{stmt_tree}
+use Rattle.ae_vmodule.specs.ModuleTree.{block_more}
+use Rattle.ae_vmodule.specs.Numbered.{parts_in_stmt}
+use Rattle.ae_vmodule.specs.Roots.{numbered_stmt}
+use Rattle.ae_vmodule.specs.View.{stmt_tree}
 use Rattle.ae_assign.proofs.EdgeBlocks.{IsActing}
 use Rattle.ae_assign.proofs.statements.+acting.Given as goal
 

@@ -1,7 +1,7 @@
 use Rattle.std.proofs.Common.{◌<◌, ◌%◌, ◌^◌, length, max, inl, arith, sym, ap, ◌∙◌, subst}
 use Rattle.ae_netlist.specs.Circuit.{IsNet}
-use Rattle.ae_vread.specs.Roots.{numbered}
-use Rattle.ae_vread.specs.View.{expr_tree, word_at}
+use Rattle.ae_vmodule.specs.Roots.{numbered}
+use Rattle.ae_vmodule.specs.View.{expr_tree, word_at}
 use Rattle.ae_judge.specs.Widths.{own_width}
 use Rattle.ae_runs.specs.Values.{value_at}
 use Rattle.ae_runs.specs.Named.{place_of, read}

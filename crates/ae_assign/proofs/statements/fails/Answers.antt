@@ -1,7 +1,7 @@
 use Rattle.std.proofs.Common.{◌==◌, ap}
 use Rattle.ae_word.specs.WordTable.{bit}
-use Rattle.ae_vread.specs.Roots.{numbered}
-use Rattle.ae_vread.specs.View.{expr_tree}
+use Rattle.ae_vmodule.specs.Roots.{numbered}
+use Rattle.ae_vmodule.specs.View.{expr_tree}
 use Rattle.ae_runs.specs.Values.{value_at}
 use Rattle.ae_runs.specs.Named.{read}
 use Rattle.ae_gates.proofs.Words.{same_word}

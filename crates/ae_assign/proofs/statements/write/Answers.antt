@@ -1,6 +1,6 @@
 use Rattle.std.proofs.Common.{◌<◌, ◌%◌, ◌^◌, length, max, inl, arith, refl, sym, ap}
-use Rattle.ae_vread.specs.Roots.{numbered}
-use Rattle.ae_vread.specs.View.{expr_tree, word_at}
+use Rattle.ae_vmodule.specs.Roots.{numbered}
+use Rattle.ae_vmodule.specs.View.{expr_tree, word_at}
 use Rattle.ae_judge.specs.Names.{depth_of}
 use Rattle.ae_judge.specs.Widths.{own_width}
 use Rattle.ae_runs.specs.Values.{value_at}

@@ -4,7 +4,7 @@ use Rattle.ae_netlist.specs.Circuit.{Circuit}
 use Rattle.ae_seq.specs.ProgramTree.{program_tree}
 use Rattle.ae_rewrite.specs.StProgramTree.{st_func_trees}
 use Rattle.ae_runs.specs.SameRuns.{HasSameRuns}
-use Rattle.ae_vread.specs.ModuleTree.{ModuleTree}
+use Rattle.ae_vmodule.specs.ModuleTree.{ModuleTree}
 use Rattle.ae_vread.specs.Spells.{Spells}
 use Rattle.ae_verilog.specs.Notes.{note_tree, lines_of, noted_module}
 use Rattle.ae_verilog.specs.ReportLines.{report_tree}

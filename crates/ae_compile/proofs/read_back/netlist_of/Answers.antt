@@ -1,4 +1,4 @@
-use Rattle.ae_vread.specs.View.{module_tree}
+use Rattle.ae_vmodule.specs.View.{module_tree}
 use Rattle.ae_compile.proofs.NoFaults.{only_memory}
 use Rattle.ae_compile.proofs.read_back.netlist_of.Goals as goal
 

@@ -1,8 +1,8 @@
 use Rattle.std.proofs.Common.{◌<◌, ◌^◌, List, ℕ, length, sym, subst}
 use Rattle.std.proofs.lemmas.Result.{IfOk-weaker}
-use Rattle.ae_vread.specs.ModuleTree.{ModuleTree}
+use Rattle.ae_vmodule.specs.ModuleTree.{ModuleTree}
 use Rattle.ae_vread.specs.Spells.{Spells}
-use Rattle.ae_vread.specs.View.{module_tree}
+use Rattle.ae_vmodule.specs.View.{module_tree}
 use Rattle.ae_judge.specs.Faults.{IsWellFormed}
 use Rattle.ae_runs.specs.SameRuns.{HasSameRuns}
 use Rattle.ae_compile.proofs.NoFaults.{only_text_memory}

@@ -1,5 +1,5 @@
 use Rattle.std.proofs.Common.{length, ap, ◌∙◌, arith}
-use Rattle.ae_vread.specs.View.{module_tree}
+use Rattle.ae_vmodule.specs.View.{module_tree}
 use Rattle.ae_netlist.proofs.Growing.{extends_length}
 use Rattle.ae_netlist.specs.Circuit.{Circuit}
 use Rattle.ae_runs.specs.SameRuns.{input_cells}

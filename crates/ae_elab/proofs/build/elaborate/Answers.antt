@@ -1,4 +1,4 @@
-use Rattle.ae_vread.specs.View.{module_tree}
+use Rattle.ae_vmodule.specs.View.{module_tree}
 use Rattle.ae_elab.proofs.build.elaborate.Goals as goal
 
 pub judge-requires-clause-shape : goal.judge-requires-clause-shape

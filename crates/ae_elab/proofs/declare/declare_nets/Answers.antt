@@ -1,6 +1,6 @@
 use Rattle.std.proofs.Common.{◌≡◌, ◌+◌, ◌≤◌, List, [], ◌∷◌, ◌++◌, length, map, take, Some, slice_get, refl, ◌∙◌, subst}
-use Rattle.ae_vread.specs.declared.module.VNet.{VNet}
-use Rattle.ae_vread.specs.View.{module_tree, net_tree}
+use Rattle.ae_vmodule.specs.declared.module.VNet.{VNet}
+use Rattle.ae_vmodule.specs.View.{module_tree, net_tree}
 use Rattle.ae_netlist.specs.Counts.{count_of, is_input}
 use Rattle.ae_judge.specs.Names.{depth_of_kind, is_clock}
 use Rattle.ae_elab.specs.Declaring.{AddsCell, given_cell}

@@ -1,5 +1,5 @@
 use Rattle.std.proofs.Common.{◌≡◌, map, take}
-use Rattle.ae_vread.specs.View.{module_tree, net_tree}
+use Rattle.ae_vmodule.specs.View.{module_tree, net_tree}
 use Rattle.ae_elab.specs.Declaring.{AreDeclared}
 use Rattle.ae_elab.proofs.declare.declare_nets.Given as goal
 

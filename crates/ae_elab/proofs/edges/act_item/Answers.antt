@@ -1,8 +1,8 @@
 use Rattle.std.proofs.Common.{◌≡◌, [], ◌∷◌, None, refl, sym, subst}
-use Rattle.ae_vread.specs.ModuleTree.{always}
-use Rattle.ae_vread.specs.Numbered.{NumberedStmt}
-use Rattle.ae_vread.specs.Roots.{code_stmt}
-use Rattle.ae_vread.specs.View.{item_tree, stmt_tree, word_at}
+use Rattle.ae_vmodule.specs.ModuleTree.{always}
+use Rattle.ae_vmodule.specs.Numbered.{NumberedStmt}
+use Rattle.ae_vmodule.specs.Roots.{code_stmt}
+use Rattle.ae_vmodule.specs.View.{item_tree, stmt_tree, word_at}
 use Rattle.ae_assign.specs.Edges.{Acts, ActsItems}
 use Rattle.ae_elab.proofs.EdgeItems.{always_acts}
 use Rattle.ae_elab.proofs.edges.act_item.Goals as goal

@@ -1,6 +1,6 @@
 use Rattle.std.proofs.Common.{◌≡◌, ◌+◌, ◌*◌, ◌<◌, ◌∷◌, length, map, drop, rules, subst, arith}
 use Rattle.std.specs.List.{sum_by}
-use Rattle.ae_vread.specs.View.{item_tree}
+use Rattle.ae_vmodule.specs.View.{item_tree}
 use Rattle.ae_gates.specs.Cells.{HasRoom}
 use Rattle.ae_assign.specs.Edges.{edge_weight}
 use Rattle.std.proofs.lemmas.List.Sums.{sum_by-cons}

@@ -1,5 +1,5 @@
 use Rattle.std.proofs.Common.{drop, map}
-use Rattle.ae_vread.specs.View.{item_tree}
+use Rattle.ae_vmodule.specs.View.{item_tree}
 use Rattle.ae_elab.proofs.EdgeItems.{AreActing}
 use Rattle.ae_elab.proofs.edges.act_items.Given as goal
 

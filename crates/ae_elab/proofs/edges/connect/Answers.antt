@@ -1,4 +1,4 @@
-use Rattle.ae_vread.specs.View.{net_tree}
+use Rattle.ae_vmodule.specs.View.{net_tree}
 use Rattle.ae_assign.specs.Edges.{FitsNext}
 use Rattle.ae_assign.specs.declared.statements.Next.TheVariants.{Word, Write}
 use Rattle.ae_elab.proofs.EdgeConnects.{memory_asked, register_asked, word_joined, write_joined}

@@ -1,7 +1,7 @@
 use Rattle.std.proofs.Common.{◌<◌, ◌+◌, length, get_or, Some, None, arith, sym, ap, ◌∙◌, subst}
 use Rattle.std.proofs.lemmas.List.{length-map}
 use Rattle.std.proofs.lemmas.Option.{slice_get-get_or, slice_get_within}
-use Rattle.ae_vread.specs.View.{module_tree, net_tree}
+use Rattle.ae_vmodule.specs.View.{module_tree, net_tree}
 use Rattle.ae_assign.specs.declared.statements.Next.TheVariants.{Keep}
 use Rattle.ae_order.proofs.Turns.{at_turn}
 use Rattle.ae_elab.proofs.EdgeJoins.{AreJoined, joins_step, joins_none}

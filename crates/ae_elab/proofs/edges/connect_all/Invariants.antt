@@ -1,4 +1,4 @@
-use Rattle.ae_vread.specs.View.{module_tree}
+use Rattle.ae_vmodule.specs.View.{module_tree}
 use Rattle.ae_elab.proofs.EdgeJoins.{AreJoined}
 use Rattle.ae_elab.proofs.edges.connect_all.Given as goal
 

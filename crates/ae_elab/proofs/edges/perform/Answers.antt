@@ -1,6 +1,6 @@
 use Rattle.std.proofs.Common.{◌≡◌, length, map, replicate, arith, sym, ap, ◌∙◌}
 use Rattle.std.proofs.lemmas.List.{length-map}
-use Rattle.ae_vread.specs.View.{item_tree, module_tree, net_tree}
+use Rattle.ae_vmodule.specs.View.{item_tree, module_tree, net_tree}
 use Rattle.ae_assign.specs.Edges.{ActsItems}
 use Rattle.ae_assign.specs.declared.statements.Next.TheVariants.{Keep}
 use Rattle.ae_elab.proofs.EdgeSteps.{edge_steps}

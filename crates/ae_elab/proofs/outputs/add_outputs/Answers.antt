@@ -1,6 +1,6 @@
 use Rattle.std.proofs.Common.{ℕ, map, min, take, Some, None, sym, ap, ◌∙◌, arith}
 use Rattle.std.proofs.lemmas.List.{length-map, length-take, take_more}
-use Rattle.ae_vread.specs.View.{module_tree, net_tree}
+use Rattle.ae_vmodule.specs.View.{module_tree, net_tree}
 use Rattle.ae_netlist.specs.declared.cell.Outlet.{Outlet}
 use Rattle.ae_netlist.specs.Circuit.{Circuit}
 use Rattle.ae_order.proofs.Turns.{at_turn, take_turn}

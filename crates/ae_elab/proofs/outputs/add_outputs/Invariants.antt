@@ -1,5 +1,5 @@
 use Rattle.std.proofs.Common.{◌≡◌, ◌≤◌, length, map, take}
-use Rattle.ae_vread.specs.View.{net_tree}
+use Rattle.ae_vmodule.specs.View.{net_tree}
 use Rattle.ae_netlist.specs.declared.cell.Outlet.{Outlet}
 use Rattle.ae_elab.specs.Declaring.{ArePlainOutlets, is_output, with_nets}
 use Rattle.ae_elab.proofs.outputs.add_outputs.Given as goal

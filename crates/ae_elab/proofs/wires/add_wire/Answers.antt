@@ -1,7 +1,7 @@
 use Rattle.std.proofs.Common.{◌≡◌, length, Some, None, slice_get, ap, arith}
 use Rattle.std.proofs.lemmas.List.{length-map}
-use Rattle.ae_vread.specs.Roots.{numbered}
-use Rattle.ae_vread.specs.View.{expr_tree, module_tree}
+use Rattle.ae_vmodule.specs.Roots.{numbered}
+use Rattle.ae_vmodule.specs.View.{expr_tree, module_tree}
 use Rattle.ae_order.specs.Drives.{value_tree, values_of}
 use Rattle.ae_judge.proofs.Members.{among_from}
 use Rattle.ae_order.proofs.DriveLaws.{values_long, values_sound}

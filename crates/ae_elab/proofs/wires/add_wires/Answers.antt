@@ -1,5 +1,5 @@
 use Rattle.std.proofs.Common.{arith}
-use Rattle.ae_vread.specs.View.{module_tree}
+use Rattle.ae_vmodule.specs.View.{module_tree}
 use Rattle.ae_gates.proofs.Words.{grows_refl}
 use Rattle.ae_elab.proofs.Wiring.{open_equations, wiring_first, wiring_whole}
 use Rattle.ae_elab.proofs.wires.add_wires.Goals as goal

@@ -1,5 +1,5 @@
 use Rattle.std.proofs.Common.{◌+◌, ◌*◌, ◌≤◌, length}
-use Rattle.ae_vread.specs.View.{module_tree}
+use Rattle.ae_vmodule.specs.View.{module_tree}
 use Rattle.ae_gates.specs.Cells.{GrowsByGates}
 use Rattle.ae_order.specs.Drives.{values_of}
 use Rattle.ae_elab.specs.Wiring.{IsWiring, KeepsNets, open_weight}

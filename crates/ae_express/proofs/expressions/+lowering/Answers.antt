@@ -1,11 +1,11 @@
 use Rattle.std.proofs.Common.{◌≡◌, ◌+◌, ◌*◌, ◌≤◌, ◌^◌, [], ◌∷◌, ◌++◌, length, rules, false, sym, ap, subst, arith}
 use Rattle.std.proofs.Math.Facts.{Fits-of_lt}
 use Rattle.std.proofs.Math.Nat.{pow-le-pow_right}
-use Rattle.ae_vread.specs.ModuleTree.{concat_more, concat_one}
-use Rattle.ae_vread.specs.Numbered as n
-use Rattle.ae_vread.specs.Numbered.{NumberedExpr, parts_in}
-use Rattle.ae_vread.specs.Roots.{numbered}
-use Rattle.ae_vread.specs.View.{expr_tree, word_at}
+use Rattle.ae_vmodule.specs.ModuleTree.{concat_more, concat_one}
+use Rattle.ae_vmodule.specs.Numbered as n
+use Rattle.ae_vmodule.specs.Numbered.{NumberedExpr, parts_in}
+use Rattle.ae_vmodule.specs.Roots.{numbered}
+use Rattle.ae_vmodule.specs.View.{expr_tree, word_at}
 use Rattle.ae_judge.specs.Widths.{own_width}
 use Rattle.ae_judge.specs.Weight.{expr_weight}
 use Rattle.ae_judge.specs.Faults.{is_place}

@@ -1,9 +1,9 @@
 use Rattle.std.proofs.Common.{ℕ, List, ◌≡◌, ◌≤◌, ◌+◌, ◌*◌, ◌++◌, length}
 use Rattle.ae_netlist.specs.Circuit.{IsNet}
-use Rattle.ae_vread.specs.ModuleTree.{concat_more}
-use Rattle.ae_vread.specs.Numbered.{parts_in}
-use Rattle.ae_vread.specs.Roots.{numbered}
-use Rattle.ae_vread.specs.View.{expr_tree}
+use Rattle.ae_vmodule.specs.ModuleTree.{concat_more}
+use Rattle.ae_vmodule.specs.Numbered.{parts_in}
+use Rattle.ae_vmodule.specs.Roots.{numbered}
+use Rattle.ae_vmodule.specs.View.{expr_tree}
 use Rattle.ae_judge.specs.Widths.{own_width}
 use Rattle.ae_judge.specs.Weight.{expr_weight}
 use Rattle.ae_gates.specs.Cells.{GrowsByGates}

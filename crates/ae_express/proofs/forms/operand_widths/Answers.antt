@@ -1,6 +1,6 @@
-use Rattle.ae_vread.specs.Roots.{numbered}
+use Rattle.ae_vmodule.specs.Roots.{numbered}
 use Rattle.std.proofs.Common.{arith}
-use Rattle.ae_vread.specs.View.{expr_tree}
+use Rattle.ae_vmodule.specs.View.{expr_tree}
 use Rattle.ae_judge.specs.Widths.{own_width}
 use Rattle.ae_order.proofs.SoundLaws.{sound_low}
 use Rattle.ae_express.proofs.forms.operand_widths.Goals as goal

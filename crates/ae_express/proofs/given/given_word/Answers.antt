@@ -1,6 +1,6 @@
-use Rattle.ae_vread.specs.Roots.{numbered}
+use Rattle.ae_vmodule.specs.Roots.{numbered}
 use Rattle.std.proofs.Common.{ℕ, ◌≡◌, ◌%◌, ◌^◌, max, subst}
-use Rattle.ae_vread.specs.View.{expr_tree}
+use Rattle.ae_vmodule.specs.View.{expr_tree}
 use Rattle.ae_judge.specs.Widths.{own_width}
 use Rattle.ae_runs.specs.Values.{value_at}
 use Rattle.ae_gates.specs.Cells.{IsWord}

@@ -1,4 +1,4 @@
-use Rattle.ae_vread.specs.View.{word_at}
+use Rattle.ae_vmodule.specs.View.{word_at}
 use Rattle.std.proofs.Common.{◌≡◌, get_or, true, false, sym, ap, ◌∙◌}
 use Rattle.ae_netlist.specs.Runs.{store_at}
 use Rattle.ae_netlist.proofs.Growing.{keeps_extends}

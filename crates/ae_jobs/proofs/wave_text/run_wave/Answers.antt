@@ -1,7 +1,7 @@
 use Rattle.std.proofs.Common.{◌≡◌, ◌+◌, ◌*◌, ◌≤◌, ◌∙◌, ℕ, length, map, ap, sym, subst}
 use Rattle.ae_seq.specs.ProgramTree.{program_tree}
 use Rattle.ae_rewrite.specs.StProgramTree.{st_func_trees}
-use Rattle.ae_vread.specs.ModuleTree.{ModuleTree, NetTree}
+use Rattle.ae_vmodule.specs.ModuleTree.{ModuleTree, NetTree}
 use Rattle.ae_verilog.specs.Notes.{lines_of, note_tree, noted_module}
 use Rattle.ae_verilog.specs.PortNets.{port_nets}
 use Rattle.ae_verilog.specs.ReportLines.{report_tree}

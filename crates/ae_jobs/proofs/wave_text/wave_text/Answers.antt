@@ -4,7 +4,7 @@ use Rattle.std.proofs.lemmas.List.{length-map}
 use Rattle.ae_seq.specs.ProgramTree.{program_tree}
 use Rattle.ae_rewrite.specs.StProgramTree.{st_func_trees}
 use Rattle.ae_rewrite.specs.Interface.{parameter_types}
-use Rattle.ae_vread.specs.ModuleTree.{ModuleTree}
+use Rattle.ae_vmodule.specs.ModuleTree.{ModuleTree}
 use Rattle.ae_vread.specs.Spells.{Spells}
 use Rattle.ae_verilog.specs.Notes.{note_tree, noted_module}
 use Rattle.ae_verilog.specs.ReportLines.{report_tree}

@@ -1,7 +1,7 @@
 use Rattle.std.proofs.Common.{◌≡◌, ◌∙◌, sym, subst, map}
 use Rattle.std.specs.Prelude.{option_map}
 use Rattle.std.proofs.lemmas.Result.{IfOk-weaker}
-use Rattle.ae_vread.specs.View.{item_tree, module_tree, word_at}
+use Rattle.ae_vmodule.specs.View.{item_tree, module_tree, word_at}
 use Rattle.ae_judge.specs.Names.{first_clock, clock_or, clock_name}
 use Rattle.ae_judge.specs.Faults.{HasKind}
 use Rattle.ae_judge.specs.Judging.{IsFirstOf, first_from, misuses}

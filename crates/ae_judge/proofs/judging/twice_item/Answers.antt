@@ -1,6 +1,6 @@
 use Rattle.std.proofs.Common.{◌≡◌, ◌∙◌, sym, ap, subst, map, [], None}
 use Rattle.std.specs.Prelude.{flat_map}
-use Rattle.ae_vread.specs.View.{item_tree, module_tree}
+use Rattle.ae_vmodule.specs.View.{item_tree, module_tree}
 use Rattle.ae_judge.specs.Names.{item_targets}
 use Rattle.ae_judge.specs.Faults.{HasTwice}
 use Rattle.ae_judge.specs.Judging.{IsFirstOf, earlier, first_again, first_twice, with_names}

@@ -1,5 +1,5 @@
 use Rattle.std.proofs.Common.{◌∙◌, sym, subst, map}
-use Rattle.ae_vread.specs.View.{net_tree, module_tree}
+use Rattle.ae_vmodule.specs.View.{net_tree, module_tree}
 use Rattle.ae_judge.specs.Faults.{HasUndriven}
 use Rattle.ae_judge.specs.Judging.{IsFirstOf, first_from, is_undriven}
 use Rattle.ae_judge.proofs.Judged.{undriven_first}

@@ -1,6 +1,6 @@
 use Rattle.std.proofs.Common.{◌∙◌, sym, subst, map}
 use Rattle.std.proofs.lemmas.Result.{IfOk-weaker}
-use Rattle.ae_vread.specs.View.{item_tree, module_tree}
+use Rattle.ae_vmodule.specs.View.{item_tree, module_tree}
 use Rattle.ae_judge.specs.Faults.{HasUnknown}
 use Rattle.ae_judge.specs.Judging.{IsFirstOf, first_from, uses_unknown}
 use Rattle.ae_judge.proofs.Unknowns.{unknown_first}

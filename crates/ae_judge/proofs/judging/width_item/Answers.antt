@@ -1,5 +1,5 @@
 use Rattle.std.proofs.Common.{◌≡◌, ◌∙◌, sym, subst, map}
-use Rattle.ae_vread.specs.View.{net_tree, item_tree, module_tree}
+use Rattle.ae_vmodule.specs.View.{net_tree, item_tree, module_tree}
 use Rattle.ae_judge.specs.Faults.{HasWidth, is_too_wide_in_item}
 use Rattle.ae_judge.specs.Judging.{IsFirstOf, earlier, first_from, first_too_large}
 use Rattle.ae_judge.proofs.Judged.{width_first}

@@ -1,7 +1,7 @@
 use Rattle.std.proofs.Common.{◌≡◌, ◌≤◌, ◌+◌}
-use Rattle.ae_vread.specs.Numbered.{parts_in_stmt}
-use Rattle.ae_vread.specs.Roots.{numbered_stmt}
-use Rattle.ae_vread.specs.View.{stmt_tree}
+use Rattle.ae_vmodule.specs.Numbered.{parts_in_stmt}
+use Rattle.ae_vmodule.specs.Roots.{numbered_stmt}
+use Rattle.ae_vmodule.specs.View.{stmt_tree}
 use Rattle.ae_judge.specs.Faults.{is_misused_in_stmt}
 use Rattle.ae_judge.proofs.kinds.+misused_stmt.Given as goal
 

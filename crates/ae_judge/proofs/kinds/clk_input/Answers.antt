@@ -1,6 +1,6 @@
 use Rattle.std.proofs.Common.{rules, ◌≡◌, sym}
 use Rattle.std.specs.Prelude.{codes}
-use Rattle.ae_vread.specs.View.{net_tree, word_at}
+use Rattle.ae_vmodule.specs.View.{net_tree, word_at}
 use Rattle.ae_judge.proofs.PlaceLemmas.{named_is}
 use Rattle.ae_judge.proofs.kinds.clk_input.Goals as goal
 

@@ -1,5 +1,5 @@
 use Rattle.std.proofs.Common.{◌≡◌, drop, map}
-use Rattle.ae_vread.specs.View.{item_tree}
+use Rattle.ae_vmodule.specs.View.{item_tree}
 use Rattle.ae_judge.specs.Names.{first_clock}
 use Rattle.ae_judge.proofs.kinds.first_clock.Given as goal
 

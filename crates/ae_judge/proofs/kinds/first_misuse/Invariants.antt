@@ -1,5 +1,5 @@
 use Rattle.std.proofs.Common.{◌≡◌, ◌+◌, drop, map, option_map}
-use Rattle.ae_vread.specs.View.{item_tree, word_at}
+use Rattle.ae_vmodule.specs.View.{item_tree, word_at}
 use Rattle.ae_judge.specs.Judging.{first_from, misuses}
 use Rattle.ae_judge.proofs.kinds.first_misuse.Given as goal
 

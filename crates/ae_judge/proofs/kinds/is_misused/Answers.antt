@@ -1,6 +1,6 @@
 -- What the symbols misuse is what the expression does.
 use Rattle.std.proofs.Common.{false, ap, ◌∙◌}
-use Rattle.ae_vread.specs.Roots.{numbered}
+use Rattle.ae_vmodule.specs.Roots.{numbered}
 use Rattle.ae_judge.specs.Symbols.{any_misread}
 use Rattle.ae_judge.proofs.Read.{misread_coded}
 use Rattle.ae_judge.proofs.kinds.is_misused.Goals as goal

@@ -2,7 +2,7 @@
 use Rattle.std.proofs.Common.{◌||◌, sym, ◌∙◌}
 use Rattle.std.specs.Prelude.{option_map}
 use Rattle.std.specs.List.{list_any}
-use Rattle.ae_vread.specs.View.{item_tree, word_at}
+use Rattle.ae_vmodule.specs.View.{item_tree, word_at}
 use Rattle.ae_judge.specs.Names.{is_named, item_reads}
 use Rattle.ae_judge.specs.Judging.{misuses}
 use Rattle.ae_judge.proofs.Members.{none_named}

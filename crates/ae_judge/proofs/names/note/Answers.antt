@@ -2,7 +2,7 @@
 use Rattle.std.proofs.Common.{◌≡◌, List, [], is_some, length, refl, sym, ap, ◌∙◌, ℕ, ◌∷◌, true, false, arith}
 use Rattle.std.specs.Prelude.{nat_eq, ◌≢◌}
 use Rattle.std.proofs.lemmas.Bool.Decides.{nat_tests}
-use Rattle.ae_vread.specs.View.{word_at}
+use Rattle.ae_vmodule.specs.View.{word_at}
 use Rattle.ae_judge.proofs.PlaceLemmas.{note_empty, note_more, noted_there}
 use Rattle.ae_judge.proofs.names.note.Goals as goal
 

@@ -1,7 +1,7 @@
 use Rattle.std.proofs.Common.{ℕ, List, ◌≡◌, ◌≤◌, ◌++◌, map}
-use Rattle.ae_vread.specs.Numbered.{parts_in}
-use Rattle.ae_vread.specs.Roots.{numbered}
-use Rattle.ae_vread.specs.View.{expr_tree, word_at}
+use Rattle.ae_vmodule.specs.Numbered.{parts_in}
+use Rattle.ae_vmodule.specs.Roots.{numbered}
+use Rattle.ae_vmodule.specs.View.{expr_tree, word_at}
 use Rattle.ae_judge.specs.Names.{names_in}
 use Rattle.ae_judge.proofs.reads.+names.Given as goal
 

@@ -1,7 +1,7 @@
 use Rattle.std.proofs.Common.{ℕ, List, ◌≡◌, ◌≤◌, ◌++◌, map}
-use Rattle.ae_vread.specs.Numbered.{parts_in_stmt}
-use Rattle.ae_vread.specs.Roots.{numbered_stmt}
-use Rattle.ae_vread.specs.View.{stmt_tree, word_at}
+use Rattle.ae_vmodule.specs.Numbered.{parts_in_stmt}
+use Rattle.ae_vmodule.specs.Roots.{numbered_stmt}
+use Rattle.ae_vmodule.specs.View.{stmt_tree, word_at}
 use Rattle.ae_judge.specs.Names.{stmt_targets}
 use Rattle.ae_judge.proofs.reads.+stmt_targets.Given as goal
 

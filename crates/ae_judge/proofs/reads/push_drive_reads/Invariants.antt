@@ -1,5 +1,5 @@
 use Rattle.std.proofs.Common.{ℕ, List, ◌≡◌, ◌++◌, flat_map, map, take}
-use Rattle.ae_vread.specs.View.{drive_tree, word_at}
+use Rattle.ae_vmodule.specs.View.{drive_tree, word_at}
 use Rattle.ae_judge.specs.Names.{drive_reads}
 use Rattle.ae_judge.proofs.reads.push_drive_reads.Given as goal
 

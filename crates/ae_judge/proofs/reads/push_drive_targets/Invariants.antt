@@ -1,5 +1,5 @@
 use Rattle.std.proofs.Common.{ℕ, List, ◌≡◌, ◌++◌, map, take}
-use Rattle.ae_vread.specs.View.{drive_tree, word_at}
+use Rattle.ae_vmodule.specs.View.{drive_tree, word_at}
 use Rattle.ae_judge.specs.Names.{target_of}
 use Rattle.ae_judge.proofs.reads.push_drive_targets.Given as goal
 

@@ -1,7 +1,7 @@
 use Rattle.std.proofs.Common.{◌≡◌, ◌∙◌, ◌||◌, false, sym, ap, map, []}
 use Rattle.std.specs.List.{list_any}
 use Rattle.std.proofs.lemmas.Result.{IfOk-weaker}
-use Rattle.ae_vread.specs.View.{item_tree, word_at}
+use Rattle.ae_vmodule.specs.View.{item_tree, word_at}
 use Rattle.ae_judge.specs.Names.{item_targets}
 use Rattle.ae_judge.specs.Judging.{is_driven, repeats, drives_twice}
 use Rattle.ae_judge.proofs.Again.{fresh_repeats}

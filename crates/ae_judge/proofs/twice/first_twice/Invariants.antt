@@ -1,5 +1,5 @@
 use Rattle.std.proofs.Common.{◌≡◌, ◌+◌, flat_map, drop, map}
-use Rattle.ae_vread.specs.View.{item_tree}
+use Rattle.ae_vmodule.specs.View.{item_tree}
 use Rattle.ae_judge.specs.Names.{item_targets}
 use Rattle.ae_judge.specs.Judging.{first_twice, with_names}
 use Rattle.ae_judge.proofs.twice.first_twice.Given as goal

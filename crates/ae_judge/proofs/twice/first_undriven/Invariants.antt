@@ -1,5 +1,5 @@
 use Rattle.std.proofs.Common.{◌≡◌, drop, map}
-use Rattle.ae_vread.specs.View.{net_tree}
+use Rattle.ae_vmodule.specs.View.{net_tree}
 use Rattle.ae_judge.specs.Judging.{first_from, is_undriven}
 use Rattle.ae_judge.proofs.twice.first_undriven.Given as goal
 

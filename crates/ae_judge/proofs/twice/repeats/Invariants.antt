@@ -1,5 +1,5 @@
 use Rattle.std.proofs.Common.{◌≡◌, drop, map}
-use Rattle.ae_vread.specs.View.{item_tree, word_at}
+use Rattle.ae_vmodule.specs.View.{item_tree, word_at}
 use Rattle.ae_judge.specs.Judging.{repeats, with_names}
 use Rattle.ae_judge.proofs.twice.repeats.Given as goal
 

@@ -1,6 +1,6 @@
 use Rattle.std.proofs.Common.{◌≡◌, drop, map}
 use Rattle.std.specs.List.{list_any}
-use Rattle.ae_vread.specs.View.{drive_tree}
+use Rattle.ae_vmodule.specs.View.{drive_tree}
 use Rattle.ae_judge.specs.Judging.{is_late}
 use Rattle.ae_judge.proofs.unknown.any_late.Given as goal
 

@@ -1,5 +1,5 @@
 use Rattle.std.proofs.Common.{◌≡◌, drop, map}
-use Rattle.ae_vread.specs.View.{drive_tree}
+use Rattle.ae_vmodule.specs.View.{drive_tree}
 use Rattle.ae_judge.specs.Judging.{drives_unknown}
 use Rattle.ae_judge.proofs.unknown.any_ungiven.Given as goal
 

@@ -1,6 +1,6 @@
 use Rattle.std.proofs.Common.{◌≡◌, drop, map}
 use Rattle.std.specs.List.{list_any}
-use Rattle.ae_vread.specs.View.{word_at}
+use Rattle.ae_vmodule.specs.View.{word_at}
 use Rattle.ae_judge.specs.Judging.{is_unknown}
 use Rattle.ae_judge.proofs.unknown.any_unknown.Given as goal
 

@@ -1,5 +1,5 @@
 use Rattle.std.proofs.Common.{◌≡◌, ◌+◌, drop, map}
-use Rattle.ae_vread.specs.View.{item_tree}
+use Rattle.ae_vmodule.specs.View.{item_tree}
 use Rattle.ae_judge.specs.Judging.{first_from, uses_unknown}
 use Rattle.ae_judge.proofs.unknown.first_unknown.Given as goal
 

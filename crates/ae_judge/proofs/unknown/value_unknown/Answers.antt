@@ -1,7 +1,7 @@
 -- The names that the symbols read are those of the value.
 use Rattle.std.proofs.Common.{ap, ◌∙◌}
 use Rattle.std.specs.List.{list_any}
-use Rattle.ae_vread.specs.Roots.{numbered}
+use Rattle.ae_vmodule.specs.Roots.{numbered}
 use Rattle.ae_judge.specs.Judging.{is_unknown}
 use Rattle.ae_judge.specs.Symbols.{words_read}
 use Rattle.ae_judge.proofs.Read.{read_coded}

@@ -1,8 +1,8 @@
 use Rattle.std.proofs.Common.{ℕ, List, ◌≡◌, ◌≤◌, ◌+◌}
 use Rattle.std.specs.Prelude.{min}
-use Rattle.ae_vread.specs.Numbered.{parts_in}
-use Rattle.ae_vread.specs.Roots.{numbered}
-use Rattle.ae_vread.specs.View.{expr_tree}
+use Rattle.ae_vmodule.specs.Numbered.{parts_in}
+use Rattle.ae_vmodule.specs.Roots.{numbered}
+use Rattle.ae_vmodule.specs.View.{expr_tree}
 use Rattle.ae_judge.specs.Weight.{expr_weight}
 use Rattle.ae_judge.proofs.weigh.+weigh.Given as goal
 

@@ -1,7 +1,7 @@
 use Rattle.std.proofs.Common.{rules, ◌≡◌, ◌+◌, ◌∙◌, ap}
 use Rattle.std.specs.Prelude.{min}
-use Rattle.ae_vread.specs.Roots.{numbered_stmt}
-use Rattle.ae_vread.specs.View.{stmt_tree}
+use Rattle.ae_vmodule.specs.Roots.{numbered_stmt}
+use Rattle.ae_vmodule.specs.View.{stmt_tree}
 use Rattle.ae_judge.specs.Weight.{stmt_weight}
 use Rattle.ae_judge.proofs.Weighing.{ifs_capped}
 use Rattle.ae_judge.proofs.weigh.+weigh_stmt.Goals as goal

@@ -1,8 +1,8 @@
 use Rattle.std.proofs.Common.{ℕ, List, ◌≡◌, ◌≤◌, ◌+◌}
 use Rattle.std.specs.Prelude.{min}
-use Rattle.ae_vread.specs.Numbered.{parts_in_stmt}
-use Rattle.ae_vread.specs.Roots.{numbered_stmt}
-use Rattle.ae_vread.specs.View.{stmt_tree}
+use Rattle.ae_vmodule.specs.Numbered.{parts_in_stmt}
+use Rattle.ae_vmodule.specs.Roots.{numbered_stmt}
+use Rattle.ae_vmodule.specs.View.{stmt_tree}
 use Rattle.ae_judge.specs.Weight.{stmt_weight}
 use Rattle.ae_judge.proofs.weigh.+weigh_stmt.Given as goal
 

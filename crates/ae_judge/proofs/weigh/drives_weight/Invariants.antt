@@ -1,6 +1,6 @@
 use Rattle.std.proofs.Common.{ℕ, List, ◌≡◌, map, take}
 use Rattle.std.specs.Prelude.{min, sum_by}
-use Rattle.ae_vread.specs.View.{drive_tree}
+use Rattle.ae_vmodule.specs.View.{drive_tree}
 use Rattle.ae_judge.specs.Weight.{drive_weight}
 use Rattle.ae_judge.proofs.weigh.drives_weight.Given as goal
 

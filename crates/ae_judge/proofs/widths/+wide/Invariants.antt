@@ -1,9 +1,9 @@
 use Rattle.std.proofs.Common.{ℕ, ◌≡◌, ◌≤◌, ◌+◌, ◌*◌, ◌||◌}
 use Rattle.std.specs.Prelude.{min, nat_lt}
-use Rattle.ae_vread.specs.ModuleTree.{concat_more}
-use Rattle.ae_vread.specs.Numbered.{parts_in}
-use Rattle.ae_vread.specs.Roots.{numbered}
-use Rattle.ae_vread.specs.View.{expr_tree}
+use Rattle.ae_vmodule.specs.ModuleTree.{concat_more}
+use Rattle.ae_vmodule.specs.Numbered.{parts_in}
+use Rattle.ae_vmodule.specs.Roots.{numbered}
+use Rattle.ae_vmodule.specs.View.{expr_tree}
 use Rattle.ae_judge.specs.Widths.{own_width}
 use Rattle.ae_judge.specs.Faults.{is_too_wide}
 use Rattle.ae_judge.proofs.widths.+wide.Given as goal

@@ -1,5 +1,5 @@
 use Rattle.std.proofs.Common.{◌≡◌, drop, map}
-use Rattle.ae_vread.specs.View.{net_tree}
+use Rattle.ae_vmodule.specs.View.{net_tree}
 use Rattle.ae_judge.specs.Judging.{first_too_large}
 use Rattle.ae_judge.proofs.widths.first_too_large.Given as goal
 

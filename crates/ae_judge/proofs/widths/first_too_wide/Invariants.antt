@@ -1,5 +1,5 @@
 use Rattle.std.proofs.Common.{◌≡◌, ◌+◌, drop, map}
-use Rattle.ae_vread.specs.View.{item_tree}
+use Rattle.ae_vmodule.specs.View.{item_tree}
 use Rattle.ae_judge.specs.Faults.{is_too_wide_in_item}
 use Rattle.ae_judge.specs.Judging.{first_from}
 use Rattle.ae_judge.proofs.widths.first_too_wide.Given as goal

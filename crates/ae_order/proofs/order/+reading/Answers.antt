@@ -1,8 +1,8 @@
 use Rattle.std.proofs.Common.{◌≡◌, ◌++◌, ◌∙◌, ap, arith, map, subst, sym}
-use Rattle.ae_vread.specs.Numbered as n
-use Rattle.ae_vread.specs.Numbered.{NumberedExpr, parts_in}
-use Rattle.ae_vread.specs.Roots.{numbered}
-use Rattle.ae_vread.specs.View.{expr_tree}
+use Rattle.ae_vmodule.specs.Numbered as n
+use Rattle.ae_vmodule.specs.Numbered.{NumberedExpr, parts_in}
+use Rattle.ae_vmodule.specs.Roots.{numbered}
+use Rattle.ae_vmodule.specs.View.{expr_tree}
 use Rattle.ae_judge.specs.Names.{names_in}
 use Rattle.ae_runs.specs.Named.{place_of}
 use Rattle.ae_order.specs.Sound.{IsSound}

@@ -1,7 +1,7 @@
 use Rattle.std.proofs.Common.{◌≡◌, length, map, replicate, None, ap, ◌∙◌, arith, subst, sym}
 use Rattle.std.specs.Prelude.{flat_map}
 use Rattle.std.proofs.lemmas.List.{length-map}
-use Rattle.ae_vread.specs.View.{item_tree, net_tree, module_tree}
+use Rattle.ae_vmodule.specs.View.{item_tree, net_tree, module_tree}
 use Rattle.ae_judge.specs.Names.{drives_of, equations}
 use Rattle.ae_judge.specs.Table.{NameTable}
 use Rattle.ae_order.specs.Drives.{AreDriven, noted}

@@ -1,6 +1,6 @@
 use Rattle.std.proofs.Common.{◌≡◌, length, map, take, replicate, None}
 use Rattle.std.specs.Prelude.{flat_map}
-use Rattle.ae_vread.specs.View.{item_tree}
+use Rattle.ae_vmodule.specs.View.{item_tree}
 use Rattle.ae_judge.specs.Names.{drives_of}
 use Rattle.ae_order.specs.Drives.{noted}
 use Rattle.ae_order.specs.Drives.{value_tree}

@@ -1,8 +1,8 @@
 use Rattle.std.proofs.Common.{ℕ, ◌≡◌, ◌+◌, length, map, Some, ap, ◌∙◌, subst, arith}
 use Rattle.std.proofs.lemmas.List.{length-map}
-use Rattle.ae_vread.specs.Roots.{numbered}
-use Rattle.ae_vread.specs.View.{expr_tree}
-use Rattle.ae_vread.specs.declared.symbols.Expr.{Expr}
+use Rattle.ae_vmodule.specs.Roots.{numbered}
+use Rattle.ae_vmodule.specs.View.{expr_tree}
+use Rattle.ae_vmodule.specs.declared.symbols.Expr.{Expr}
 use Rattle.ae_order.specs.Sound.{IsSound}
 use Rattle.ae_order.specs.Drives.{IsFlat}
 use Rattle.ae_order.proofs.Turns.{at_turn}

@@ -1,7 +1,7 @@
 use Rattle.std.proofs.Common.{Some, set, map, ap, ◌∙◌, arith, length-set}
 use Rattle.std.proofs.lemmas.Option.{slice_get_within}
-use Rattle.ae_vread.specs.Numbered.{NumberedExpr}
-use Rattle.ae_vread.specs.View.{drive_tree, expr_tree}
+use Rattle.ae_vmodule.specs.Numbered.{NumberedExpr}
+use Rattle.ae_vmodule.specs.View.{drive_tree, expr_tree}
 use Rattle.ae_runs.specs.Named.{place_of}
 use Rattle.ae_order.proofs.Turns.{at_turn, take_turn}
 use Rattle.ae_order.proofs.NameLists.{more_noted, map_written}

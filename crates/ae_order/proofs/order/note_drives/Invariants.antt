@@ -1,5 +1,5 @@
 use Rattle.std.proofs.Common.{◌≡◌, length, map, take}
-use Rattle.ae_vread.specs.View.{drive_tree}
+use Rattle.ae_vmodule.specs.View.{drive_tree}
 use Rattle.ae_order.specs.Drives.{noted}
 use Rattle.ae_order.specs.Drives.{value_tree}
 use Rattle.ae_order.proofs.order.note_drives.Given as goal

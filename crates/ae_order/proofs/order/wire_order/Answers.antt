@@ -1,6 +1,6 @@
 use Rattle.std.proofs.Common.{◌≡◌, length, map, subst, sym, arith}
 use Rattle.std.proofs.lemmas.List.{length-map}
-use Rattle.ae_vread.specs.View.{module_tree}
+use Rattle.ae_vmodule.specs.View.{module_tree}
 use Rattle.ae_order.proofs.Answered.{ok_map}
 use Rattle.ae_order.proofs.FlatLaws.{flat_graph}
 use Rattle.ae_order.proofs.DriveLaws.{values_long, values_sound, targets_inside, loop_of, order_is, no_loop_of, flat_is, fault_is, on_ok_from, err_map}

@@ -1,4 +1,4 @@
-use Rattle.ae_vread.specs.declared.module.BinOp.TheVariants.{Shl, Shr}
+use Rattle.ae_vmodule.specs.declared.module.BinOp.TheVariants.{Shl, Shr}
 use Rattle.ae_verilog.proofs.Steps.{shift_steps}
 use Rattle.ae_verilog.proofs.cells.write_value.Goals as goal
 use Rattle.ae_verilog.specs.Notes.{table_line}

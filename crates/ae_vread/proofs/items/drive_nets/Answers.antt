@@ -1,5 +1,5 @@
 use Rattle.std.proofs.Common.{◌-◌, sym, true, false, append-nil}
-use Rattle.ae_vread.specs.ModuleTree.{nets}
+use Rattle.ae_vmodule.specs.ModuleTree.{nets}
 use Rattle.ae_vread.specs.ItemReading.{drive_nets}
 use Rattle.ae_vread.proofs.ItemSteps.{one_declared, all_declared}
 use Rattle.ae_vread.proofs.items.drive_nets.Goals as goal

@@ -1,6 +1,6 @@
 use Rattle.std.proofs.Common.{◌≡◌, ◌++◌, take, map}
-use Rattle.ae_vread.specs.declared.module.Drive.{Drive}
-use Rattle.ae_vread.specs.declared.module.NetKind.TheVariants.{Wire}
+use Rattle.ae_vmodule.specs.declared.module.Drive.{Drive}
+use Rattle.ae_vmodule.specs.declared.module.NetKind.TheVariants.{Wire}
 use Rattle.ae_vread.specs.Read.{net_of}
 use Rattle.ae_vread.proofs.items.drive_nets.Given as goal
 

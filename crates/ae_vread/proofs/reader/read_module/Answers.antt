@@ -1,6 +1,6 @@
 use Rattle.std.proofs.Common.{[], refl}
 use Rattle.ae_vtoken.specs.Ahead.{ahead}
-use Rattle.ae_vread.specs.declared.module.VModule.{VModule}
+use Rattle.ae_vmodule.specs.declared.module.VModule.{VModule}
 use Rattle.ae_vread.proofs.Meanings.{named_kept}
 use Rattle.ae_vread.proofs.ReadSteps.{held_first, module_is}
 use Rattle.ae_vread.proofs.reader.read_module.Goals as goal

@@ -1,6 +1,6 @@
 use Rattle.std.proofs.Common.{◌+◌, ◌*◌}
-use Rattle.ae_vread.specs.Numbered.{parts_in}
-use Rattle.ae_vread.specs.Roots.{numbered}
+use Rattle.ae_vmodule.specs.Numbered.{parts_in}
+use Rattle.ae_vmodule.specs.Roots.{numbered}
 use Rattle.table_modules.proofs.trees.+exprs.Given as goal
 
 abbrev pub decreases-push_expr : goal.decreases-push_expr

@@ -1,6 +1,6 @@
 use Rattle.std.proofs.Common.{◌+◌, ◌*◌}
-use Rattle.ae_vread.specs.Numbered.{parts_in_stmt}
-use Rattle.ae_vread.specs.Roots.{numbered_stmt}
+use Rattle.ae_vmodule.specs.Numbered.{parts_in_stmt}
+use Rattle.ae_vmodule.specs.Roots.{numbered_stmt}
 use Rattle.table_modules.proofs.trees.+stmts.Given as goal
 
 abbrev pub decreases-push_stmt : goal.decreases-push_stmt

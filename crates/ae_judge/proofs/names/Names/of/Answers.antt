@@ -2,13 +2,13 @@
 use Rattle.std.proofs.Common.{◌<◌, List, length, get_or, refl, sym, subst, ◌∙◌, map, drop, ◌+◌, [], Some, None, false, if◌then◌else◌, arith, rules}
 use Rattle.std.specs.Option.{option_or}
 use Rattle.std.proofs.lemmas.List.{length-map, take_all}
-use Rattle.ae_vread.specs.View.{net_tree, word_at}
+use Rattle.ae_vmodule.specs.View.{net_tree, word_at}
 use Rattle.ae_judge.specs.Places.{AreNoted, Entry, Finds, with_place}
 use Rattle.ae_judge.specs.Judging.{first_again}
 use Rattle.ae_judge.proofs.PlaceLemmas.{finds_none, finds_next, none_noted, places_found}
 use Rattle.ae_judge.proofs.Again.{IsNoted, noted_next, noted_all}
-use Rattle.ae_vread.specs.declared.module.VNet.{VNet}
-use Rattle.ae_vread.specs.declared.module.NetKind.TheVariants.{Input}
+use Rattle.ae_vmodule.specs.declared.module.VNet.{VNet}
+use Rattle.ae_vmodule.specs.declared.module.NetKind.TheVariants.{Input}
 use Rattle.ae_judge.proofs.names.Names.of.Goals as goal
 
 pub net-init : goal.net-init

@@ -1,6 +1,6 @@
 use Rattle.std.proofs.Common.{map, take, drop, []}
 use Rattle.std.specs.Prelude.{List}
-use Rattle.ae_vread.specs.View.{net_tree}
+use Rattle.ae_vmodule.specs.View.{net_tree}
 use Rattle.ae_judge.specs.Places.{AreNoted, Entry, Finds}
 use Rattle.ae_judge.specs.Judging.{first_again}
 use Rattle.ae_judge.proofs.Again.{IsNoted}

@@ -1,6 +1,6 @@
 use Rattle.std.proofs.Common.{◌<◌, IfSome, length, slice_get, sym, ap, ◌∙◌, subst}
 use Rattle.std.specs.Prelude.{option_and_then}
-use Rattle.ae_vread.specs.View.{word_at}
+use Rattle.ae_vmodule.specs.View.{word_at}
 use Rattle.ae_judge.proofs.PlaceLemmas.{place_net, place_within}
 use Rattle.ae_judge.proofs.names.Names.place.Goals as goal
 

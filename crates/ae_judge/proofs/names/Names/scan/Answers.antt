@@ -1,9 +1,9 @@
 use Rattle.std.proofs.Common.{◌≡◌, false, true, get_or, length, Some, slice_get, sym, ap, ◌∙◌, subst, arith}
 use Rattle.std.specs.Prelude.{bytes_eq, option_and_then}
 use Rattle.std.proofs.lemmas.List.{length-map}
-use Rattle.ae_vread.specs.View.{net_tree}
-use Rattle.ae_vread.specs.declared.module.VNet.{VNet}
-use Rattle.ae_vread.specs.declared.module.NetKind.TheVariants.{Input}
+use Rattle.ae_vmodule.specs.View.{net_tree}
+use Rattle.ae_vmodule.specs.declared.module.VNet.{VNet}
+use Rattle.ae_vmodule.specs.declared.module.NetKind.TheVariants.{Input}
 use Rattle.ae_judge.specs.Table.{NameTable}
 use Rattle.ae_judge.proofs.PlaceLemmas.{named_head, named_none, named_tail, net_there, place_net}
 use Rattle.ae_judge.proofs.names.Names.scan.Goals as goal

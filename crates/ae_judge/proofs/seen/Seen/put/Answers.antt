@@ -1,5 +1,5 @@
 use Rattle.std.proofs.Common.{◌≡◌, false, is_some, slice_set, true, sym, ap, ◌∙◌, subst}
-use Rattle.ae_vread.specs.View.{word_at}
+use Rattle.ae_vmodule.specs.View.{word_at}
 use Rattle.ae_judge.specs.Places.{place_in, with_place}
 use Rattle.ae_judge.specs.Seen.{AreMarked, SeenNames, entries_of}
 use Rattle.ae_judge.proofs.SeenLaws.{entries_more, marked_more, marked_same}

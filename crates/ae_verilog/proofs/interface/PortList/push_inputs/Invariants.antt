@@ -1,5 +1,5 @@
 use Rattle.std.proofs.Common.{◌++◌, List, take}
-use Rattle.ae_vread.specs.ModuleTree.{NetTree}
+use Rattle.ae_vmodule.specs.ModuleTree.{NetTree}
 use Rattle.ae_verilog.specs.PortNets.{HasNets, input_ports}
 use Rattle.ae_verilog.proofs.interface.PortList.push_inputs.Given as goal
 

@@ -1,5 +1,5 @@
 use Rattle.std.proofs.Common.{◌++◌, List, map, take}
-use Rattle.ae_vread.specs.ModuleTree.{NetTree}
+use Rattle.ae_vmodule.specs.ModuleTree.{NetTree}
 use Rattle.ae_verilog.specs.NetlistModule.{output_net}
 use Rattle.ae_verilog.specs.PortNets.{HasNets}
 use Rattle.ae_verilog.proofs.interface.PortList.push_outputs.Given as goal

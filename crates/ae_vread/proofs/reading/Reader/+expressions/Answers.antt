@@ -2,13 +2,13 @@ use Rattle.std.proofs.Common.{drop, ◌≡◌, ◌+◌, ◌-◌, [], ◌∷◌, 
 use Rattle.std.proofs.lemmas.Result.{err_from_is_err_and}
 use Rattle.ae_vtoken.specs.Ahead.{ahead}
 use Rattle.ae_vtoken.specs.declared.token.Sign.TheVariants.{CloseBrace, Colon, Comma, Question, Open, Tilde}
-use Rattle.ae_vread.specs.ModuleTree as m
-use Rattle.ae_vread.specs.Numbered as n
+use Rattle.ae_vmodule.specs.ModuleTree as m
+use Rattle.ae_vmodule.specs.Numbered as n
 use Rattle.std.specs.Prelude.{slice_get, option_map}
 use Rattle.ae_vtoken.specs.Tokens.{Sized, Mark}
 use Rattle.ae_vtoken.specs.Scan.{token_view}
-use Rattle.ae_vread.specs.Stacks.{codes}
-use Rattle.ae_vread.specs.Held.{held}
+use Rattle.ae_vmodule.specs.Stacks.{codes}
+use Rattle.ae_vmodule.specs.Held.{held}
 use Rattle.ae_vread.specs.TokenTests.{after_mark}
 use Rattle.ae_vread.specs.Reading.{found, parts, parts_of, concat_of, expression, infix_at, named}
 use Rattle.ae_vread.specs.Parts.{concat_parts}

@@ -4,10 +4,10 @@ use Rattle.ae_vtoken.specs.Ahead.{ahead}
 use Rattle.ae_vtoken.specs.Tokens.{Word}
 use Rattle.ae_vtoken.specs.Scan.{token_view}
 use Rattle.ae_vtoken.specs.declared.token.Key.TheVariants.{If, Else, End}
-use Rattle.ae_vread.specs.ModuleTree as m
-use Rattle.ae_vread.specs.Numbered as n
-use Rattle.ae_vread.specs.Held.{held}
-use Rattle.ae_vread.specs.Stacks.{codes}
+use Rattle.ae_vmodule.specs.ModuleTree as m
+use Rattle.ae_vmodule.specs.Numbered as n
+use Rattle.ae_vmodule.specs.Held.{held}
+use Rattle.ae_vmodule.specs.Stacks.{codes}
 use Rattle.ae_vread.specs.TokenTests.{after_word}
 use Rattle.ae_vread.specs.StmtReading.{stmt_found, body, body_of, block_of, statement, statement_at, test_then}
 use Rattle.ae_vread.specs.ReadStmt.{block_parts}

@@ -1,7 +1,7 @@
 use Rattle.std.proofs.Common.{◌≡◌, ◌+◌, ◌-◌, ◌*◌, ◌≤◌, [], length}
 use Rattle.ae_vtoken.specs.Ahead.{ahead}
-use Rattle.ae_vread.specs.Held.{held}
-use Rattle.ae_vread.specs.Words.{Extends}
+use Rattle.ae_vmodule.specs.Held.{held}
+use Rattle.ae_vmodule.specs.Words.{Extends}
 use Rattle.ae_vread.specs.StmtReading.{Body, statement, body, body_of}
 use Rattle.ae_vread.specs.ReadExpr.{used}
 use Rattle.ae_vread.specs.ReadStmt.{HoldsBody}

@@ -1,6 +1,6 @@
 use Rattle.std.proofs.Common.{refl, ◌∙◌, max}
-use Rattle.ae_vread.specs.ModuleTree as m
-use Rattle.ae_vread.specs.Numbered as n
+use Rattle.ae_vmodule.specs.ModuleTree as m
+use Rattle.ae_vmodule.specs.Numbered as n
 use Rattle.ae_vread.specs.StmtReading.{stmt_found}
 use Rattle.ae_vread.proofs.Meanings.{no_more, deep_then}
 use Rattle.ae_vread.proofs.reading.Reader.alone.Goals as goal

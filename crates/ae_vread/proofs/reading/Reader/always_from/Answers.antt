@@ -1,7 +1,7 @@
 use Rattle.std.proofs.Common.{◌-◌, [], ap, ◌∙◌}
 use Rattle.ae_vtoken.specs.Ahead.{ahead}
-use Rattle.ae_vread.specs.ModuleTree.{always}
-use Rattle.ae_vread.specs.View.{net_tree, stmt_tree}
+use Rattle.ae_vmodule.specs.ModuleTree.{always}
+use Rattle.ae_vmodule.specs.View.{net_tree, stmt_tree}
 use Rattle.ae_vread.specs.ItemReading.{item_found}
 use Rattle.ae_vread.proofs.Meanings.{extends_by, named_kept}
 use Rattle.ae_vread.proofs.ItemSteps.{always_is, added_none}

@@ -1,8 +1,8 @@
 use Rattle.std.proofs.Common.{◌-◌, [], refl, sym, ap, ◌∙◌}
 use Rattle.ae_vtoken.specs.Ahead.{ahead}
 use Rattle.ae_vtoken.specs.declared.token.Sign.TheVariants.{Semicolon}
-use Rattle.ae_vread.specs.ModuleTree.{assigns}
-use Rattle.ae_vread.specs.View.{net_tree, drive_tree}
+use Rattle.ae_vmodule.specs.ModuleTree.{assigns}
+use Rattle.ae_vmodule.specs.View.{net_tree, drive_tree}
 use Rattle.ae_vread.specs.TokenTests.{after_mark}
 use Rattle.ae_vread.specs.ItemReading.{item_found}
 use Rattle.ae_vread.proofs.Meanings.{extends_same, extends_to}

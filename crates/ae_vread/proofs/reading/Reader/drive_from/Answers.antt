@@ -1,7 +1,7 @@
 use Rattle.std.proofs.Common.{◌-◌, [], ◌∷◌, ap, ◌∙◌}
 use Rattle.ae_vtoken.specs.Ahead.{ahead}
-use Rattle.ae_vread.specs.declared.module.Drive.{Drive}
-use Rattle.ae_vread.specs.View.{expr_tree}
+use Rattle.ae_vmodule.specs.declared.module.Drive.{Drive}
+use Rattle.ae_vmodule.specs.View.{expr_tree}
 use Rattle.ae_vread.proofs.Meanings.{extends_by, named_kept}
 use Rattle.ae_vread.proofs.ListSteps.{drive_is}
 use Rattle.ae_vread.proofs.reading.Reader.drive_from.Goals as goal

@@ -1,8 +1,8 @@
 use Rattle.std.proofs.Common.{◌≡◌, ◌+◌, ◌-◌, ◌≤◌, length}
 use Rattle.ae_vtoken.specs.Ahead.{ahead}
-use Rattle.ae_vread.specs.Held.{held}
-use Rattle.ae_vread.specs.View.{drive_tree}
-use Rattle.ae_vread.specs.ModuleTree.{DriveTree}
+use Rattle.ae_vmodule.specs.Held.{held}
+use Rattle.ae_vmodule.specs.View.{drive_tree}
+use Rattle.ae_vmodule.specs.ModuleTree.{DriveTree}
 use Rattle.ae_vread.specs.ItemReading.{Entries, entries, drive_list, one_drive, with_comma}
 use Rattle.ae_vread.specs.ReadExpr.{used}
 use Rattle.ae_vread.specs.ReadList.{Added}

@@ -1,7 +1,7 @@
 use Rattle.std.proofs.Common.{refl, sym, ap, ◌∙◌}
-use Rattle.ae_vread.specs.ModuleTree as m
-use Rattle.ae_vread.specs.Numbered as n
-use Rattle.ae_vread.specs.Held.{held}
+use Rattle.ae_vmodule.specs.ModuleTree as m
+use Rattle.ae_vmodule.specs.Numbered as n
+use Rattle.ae_vmodule.specs.Held.{held}
 use Rattle.ae_vread.specs.Reading.{found}
 use Rattle.ae_vread.proofs.Meanings.{no_more, extends_same, named_kept}
 use Rattle.ae_vread.specs.TokenTests.{after_mark}

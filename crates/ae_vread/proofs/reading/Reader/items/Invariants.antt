@@ -1,7 +1,7 @@
 use Rattle.std.proofs.Common.{◌≡◌, ◌-◌, []}
 use Rattle.ae_vread.specs.ItemReading.{Held, items}
 use Rattle.ae_vread.specs.ReadModule.{IsHeld}
-use Rattle.ae_vread.specs.Words.{Extends}
+use Rattle.ae_vmodule.specs.Words.{Extends}
 use Rattle.ae_vread.proofs.reading.Reader.items.Given as goal
 
 -- what is left to do is what there was to do

@@ -1,9 +1,9 @@
 use Rattle.std.proofs.Common.{◌≡◌, ◌+◌, ◌-◌, refl, sym, ap, subst, ◌∙◌, arith, suc}
-use Rattle.ae_vread.specs.Held.{held}
-use Rattle.ae_vread.specs.Postfix.{step}
+use Rattle.ae_vmodule.specs.Held.{held}
+use Rattle.ae_vmodule.specs.Postfix.{step}
 use Rattle.ae_vread.specs.Parts.{gather}
-use Rattle.ae_vread.specs.Stacks.{HasExprs}
-use Rattle.ae_vread.specs.declared.symbols.Symbol.TheVariants.{One, More}
+use Rattle.ae_vmodule.specs.Stacks.{HasExprs}
+use Rattle.ae_vmodule.specs.declared.symbols.Symbol.TheVariants.{One, More}
 use Rattle.ae_vread.proofs.PartLaws.{all_gathered, more_parts_there, some_part}
 use Rattle.ae_vread.proofs.reading.Reader.join_parts.Goals as goal
 

@@ -1,5 +1,5 @@
 use Rattle.std.proofs.Common.{◌≡◌, ◌+◌, ◌-◌, ◌≤◌}
-use Rattle.ae_vread.specs.Held.{held}
+use Rattle.ae_vmodule.specs.Held.{held}
 use Rattle.ae_vread.specs.Parts.{gather}
 use Rattle.ae_vread.specs.ReadExpr.{used}
 use Rattle.ae_vread.proofs.reading.Reader.join_parts.Given as goal

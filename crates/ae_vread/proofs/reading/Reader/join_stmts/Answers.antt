@@ -1,9 +1,9 @@
 use Rattle.std.proofs.Common.{◌≡◌, ◌+◌, sym, ap, subst, ◌∙◌, arith, suc}
-use Rattle.ae_vread.specs.Held.{held}
-use Rattle.ae_vread.specs.Postfix.{step}
+use Rattle.ae_vmodule.specs.Held.{held}
+use Rattle.ae_vmodule.specs.Postfix.{step}
 use Rattle.ae_vread.specs.ReadStmt.{gather_stmts}
-use Rattle.ae_vread.specs.Stacks.{HasStmts}
-use Rattle.ae_vread.specs.declared.symbols.Symbol.TheVariants.{Then}
+use Rattle.ae_vmodule.specs.Stacks.{HasStmts}
+use Rattle.ae_vmodule.specs.declared.symbols.Symbol.TheVariants.{Then}
 use Rattle.ae_vread.proofs.StmtParts.{all_gathered, more_stmts_there}
 use Rattle.ae_vread.proofs.reading.Reader.join_stmts.Goals as goal
 

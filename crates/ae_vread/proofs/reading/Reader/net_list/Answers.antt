@@ -1,6 +1,6 @@
 use Rattle.std.proofs.Common.{◌+◌, ◌-◌, ◌++◌, refl, sym, ap, ◌∙◌, true, false, arith}
 use Rattle.ae_vtoken.specs.Ahead.{ahead}
-use Rattle.ae_vread.specs.View.{net_tree}
+use Rattle.ae_vmodule.specs.View.{net_tree}
 use Rattle.ae_vread.specs.ItemReading.{net_by, one_net, comma_net, net_list}
 use Rattle.ae_vread.proofs.ListSteps.{list_begins, list_next, list_ends, added_more, added_same, went}
 use Rattle.ae_vread.proofs.reading.Reader.net_list.Goals as goal

@@ -1,6 +1,6 @@
 use Rattle.std.proofs.Common.{refl, ap}
-use Rattle.ae_vread.specs.ModuleTree as m
-use Rattle.ae_vread.specs.Numbered as n
+use Rattle.ae_vmodule.specs.ModuleTree as m
+use Rattle.ae_vmodule.specs.Numbered as n
 use Rattle.ae_vread.specs.Reading.{found}
 use Rattle.ae_vread.proofs.Meanings.{no_more, deep_then}
 use Rattle.ae_vread.proofs.reading.Reader.prefix.Goals as goal

@@ -1,8 +1,8 @@
 use Rattle.std.proofs.Common.{◌∷◌, sym, ap, ◌∙◌}
 use Rattle.ae_vtoken.specs.Ahead.{ahead}
-use Rattle.ae_vread.specs.ModuleTree as m
-use Rattle.ae_vread.specs.Numbered as n
-use Rattle.ae_vread.specs.Held.{held}
+use Rattle.ae_vmodule.specs.ModuleTree as m
+use Rattle.ae_vmodule.specs.Numbered as n
+use Rattle.ae_vmodule.specs.Held.{held}
 use Rattle.ae_vread.specs.StmtReading.{assigned}
 use Rattle.ae_vread.proofs.Meanings.{extends_by, extends_same, named_later}
 use Rattle.ae_vread.proofs.ExprSteps.{means_later}

@@ -1,7 +1,7 @@
 use Rattle.std.proofs.Common.{◌-◌, [], ◌∷◌, refl, sym, ap, ◌∙◌, true, false}
 use Rattle.ae_vtoken.specs.Ahead.{ahead}
 use Rattle.ae_vread.specs.Read.{net_of}
-use Rattle.ae_vread.specs.declared.module.NetKind.TheVariants.{Reg, Memory}
+use Rattle.ae_vmodule.specs.declared.module.NetKind.TheVariants.{Reg, Memory}
 use Rattle.ae_vread.specs.ItemReading.{net_by, reg_from, one_more}
 use Rattle.ae_vread.proofs.Meanings.{no_more, extends_same, named_kept}
 use Rattle.ae_vread.proofs.ListSteps.{net_means, reg_is, memory_is}

@@ -1,6 +1,6 @@
 use Rattle.std.proofs.Common.{◌+◌, ◌-◌, ◌++◌, refl, sym, ap, ◌∙◌, true, false, arith}
 use Rattle.ae_vtoken.specs.Ahead.{ahead}
-use Rattle.ae_vread.specs.View.{net_tree}
+use Rattle.ae_vmodule.specs.View.{net_tree}
 use Rattle.ae_vread.specs.ItemReading.{one_reg, reg_list, with_comma}
 use Rattle.ae_vread.proofs.ListSteps.{list_begins, list_next, list_ends, list_fails, list_runs_out, added_more, added_same, went, fails_at}
 use Rattle.std.proofs.lemmas.Result.{err_from_is_err_and}

@@ -1,8 +1,8 @@
 use Rattle.std.proofs.Common.{◌-◌, sym, ap, ◌∙◌}
 use Rattle.ae_vtoken.specs.Ahead.{ahead}
 use Rattle.ae_vtoken.specs.declared.token.Sign.TheVariants.{Semicolon}
-use Rattle.ae_vread.specs.ModuleTree.{nets}
-use Rattle.ae_vread.specs.View.{drive_tree}
+use Rattle.ae_vmodule.specs.ModuleTree.{nets}
+use Rattle.ae_vmodule.specs.View.{drive_tree}
 use Rattle.ae_vread.specs.TokenTests.{after_mark}
 use Rattle.ae_vread.specs.ItemReading.{item_found, drive_nets}
 use Rattle.ae_vread.proofs.Meanings.{extends_same}

@@ -1,0 +1,3 @@
+pub mod PostfixLaws
+pub mod StackLaws
+pub mod WordLaws

@@ -1,0 +1,13 @@
+//! Modules of the Verilog profile: declared names, items, and expressions and statements in postfix code.
+#![tactic(auto)]
+
+mod module;
+mod roots;
+mod stack;
+mod symbols;
+mod words;
+
+pub use module::{BinOp, Drive, NetKind, UnOp, VItem, VModule, VNet};
+pub use stack::Stack;
+pub use symbols::{Code, Expr, Root, Stmt, StmtCode, StmtRoot, Symbol};
+pub use words::Words;

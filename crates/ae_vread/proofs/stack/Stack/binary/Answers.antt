@@ -1,6 +1,0 @@
-use Rattle.ae_vread.specs.Held.{held}
-use Rattle.ae_vread.proofs.StackLaws.{binary_operator}
-use Rattle.ae_vread.proofs.stack.Stack.binary.Goals as goal
-
-pub operator-requires : goal.operator-requires
-operator-requires c = record { operator = binary_operator c.args.op c.top_size-size.result (held c.args.self.now) c.requires.some c.top_size-size.ensures }
