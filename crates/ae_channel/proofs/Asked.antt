@@ -40,7 +40,7 @@ use Rattle.ae_correct.proofs.Laid.{ins_filling, outs_filling}
 use Rattle.ae_correct.proofs.Places.{length_from}
 use Rattle.ae_stall.specs.Copies.{reset_cell}
 use Rattle.ae_streamed.specs.Beats.{AreLayouts}
-use Rattle.ae_streamed.proofs.Cells.{get_mapped}
+use Rattle.ae_control.proofs.Cells.{get_mapped}
 
 -- ---- layouts
 

@@ -26,7 +26,7 @@ use Rattle.ae_correct.proofs.Places.{port_from, same_place}
 use Rattle.ae_correct.proofs.Written.{inputs_apart}
 use Rattle.ae_stall.specs.Images.{bit_input, with_inputs}
 use Rattle.ae_streamed.specs.Between.{HasChannelInputs, channel_inputs, ports_of, sink_ready, sink_valid, source_ready, source_valid}
-use Rattle.ae_streamed.proofs.Cells.{get_mapped}
+use Rattle.ae_control.proofs.Cells.{get_mapped}
 use Rattle.ae_streamed.proofs.Within.{of_mapped}
 use Rattle.ae_channel.proofs.Inputs.{all_inputs, one_place, place, placed}
 

@@ -30,10 +30,10 @@ use Rattle.ae_stream.specs.Wired.{AreQueued, FromEach, IsMarked, IsWired}
 use Rattle.ae_streamed.specs.declared.marking.Marks.{Marks}
 use Rattle.ae_streamed.specs.Beats.{HasMarks, IsBitOf}
 use Rattle.ae_streamed.specs.Between.{IsStream, IsWrapped, channel_ends, channel_inputs, copied_nets, ports_of, sink_valid, source_ready, wires_of}
-use Rattle.ae_streamed.specs.Columns.{net_at}
+use Rattle.ae_control.specs.Columns.{net_at}
 use Rattle.ae_streamed.specs.Count.{mark_cells}
-use Rattle.ae_streamed.specs.Controls.{control_of, ends_of}
-use Rattle.ae_streamed.proofs.Cells.{same_cells}
+use Rattle.ae_control.specs.Controls.{control_of, ends_of}
+use Rattle.ae_control.proofs.Cells.{same_cells}
 use Rattle.ae_streamed.proofs.Phasing.{bit_of}
 use Rattle.ae_clocked.proofs.Added.{net_within}
 

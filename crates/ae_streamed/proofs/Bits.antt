@@ -21,7 +21,7 @@ use Rattle.ae_clocked.proofs.Adding.{grows_trans}
 use Rattle.ae_clocked.proofs.Belonging.{belongs_grows}
 use Rattle.ae_stream.specs.Streams.{in_clock, is_beat}
 use Rattle.ae_streamed.specs.Beats.{GainsBit, IsBitOf}
-use Rattle.ae_streamed.proofs.Cells.{next_first}
+use Rattle.ae_control.proofs.Cells.{next_first}
 use Rattle.ae_streamed.proofs.Beats.{and_words, in_slots_across, or_words, slot_told}
 
 pub bit_later : {a b : Circuit} {rst y : ℕ} {f : ℕ → Bool} → Grows a b → IsBitOf a.cells rst y f → IsBitOf b.cells rst y f

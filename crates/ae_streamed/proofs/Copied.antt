@@ -18,15 +18,15 @@ use Rattle.ae_stall.specs.Copies.{HasKinds, HasLogicAround, IsCopied, IsLogic, M
 use Rattle.ae_stall.specs.Held.{IsHeld}
 use Rattle.ae_stall.specs.Images.{bit_input, fresh, placed, placed_net}
 use Rattle.ae_stall.proofs.Whole.{around_copied}
-use Rattle.ae_streamed.specs.declared.driver.Controlled.{Controlled}
-use Rattle.ae_streamed.specs.declared.driver.Wires.{Wires}
+use Rattle.ae_control.specs.declared.driver.Controlled.{Controlled}
+use Rattle.ae_control.specs.declared.driver.Wires.{Wires}
 use Rattle.ae_streamed.specs.declared.marking.Marks.{Marks}
 use Rattle.ae_streamed.specs.Between.{AreMarkNets, AreShownBy, HasDriver, IsWrapped, channel_inputs, copied_nets, ports_of, sink_ready, sink_valid, source_ready, source_valid, wires_of}
-use Rattle.ae_streamed.specs.Cells.{AddsControl, IsLonger, KeepsFrom}
-use Rattle.ae_streamed.specs.Columns.{AreColumns}
-use Rattle.ae_streamed.specs.Count.{control_cells}
-use Rattle.ae_streamed.specs.Controls.{AreWires, HasControlNets, IsControl, net}
-use Rattle.ae_streamed.proofs.Cells.{is_logic, longer_trans, next_first, no_input, no_mul, same_count, same_kind, there}
+use Rattle.ae_control.specs.Cells.{AddsControl, IsLonger, KeepsFrom}
+use Rattle.ae_control.specs.Columns.{AreColumns}
+use Rattle.ae_control.specs.Count.{control_cells}
+use Rattle.ae_control.specs.Controls.{AreWires, HasControlNets, IsControl, net}
+use Rattle.ae_control.proofs.Cells.{is_logic, longer_trans, next_first, no_input, no_mul, same_count, same_kind, there}
 use Rattle.ae_streamed.proofs.Within.{of_mapped}
 use Rattle.ae_clocked.proofs.Added.{net_within, own_net as own_width}
 

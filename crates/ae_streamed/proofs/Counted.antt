@@ -7,7 +7,7 @@ use Rattle.ae_netlist.specs.Circuit.{Circuit}
 use Rattle.ae_clocked.specs.Signals.{Adds}
 use Rattle.ae_clocked.proofs.Adding.{adds_most, adds_trans}
 use Rattle.ae_streamed.specs.Count.{any_beat_cells, beat_cells, mark_cells}
-use Rattle.ae_streamed.proofs.Cells.{next_first}
+use Rattle.ae_control.proofs.Cells.{next_first}
 
 -- ---- one layout
 

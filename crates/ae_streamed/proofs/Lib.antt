@@ -1,9 +1,3 @@
-pub mod Cells
-pub mod Tables
-pub mod Wiring
-pub mod Queued
-pub mod Standing
-pub mod Queueing
 pub mod Beats
 pub mod Phasing
 pub mod Bits

@@ -10,7 +10,7 @@ use Rattle.ae_netlist.specs.declared.cell.SizedCell.{SizedCell}
 use Rattle.ae_netlist.specs.Circuit.{CellFits, IsAllowed, IsConstantBelow, IsFormed, IsMemory, IsNet, IsPlain, IsRegister, IsWritten, NamesItself, SizedCellFits, depth_of, new_memory, new_register, width_of}
 use Rattle.ae_netlist.proofs.Gets.{get_from_take, get_left, get_pushed, get_set_other, get_set_same, get_take_within}
 use Rattle.ae_netlist.proofs.Growing.{Keeps, extends_refl, fits_later, keeps_extends, width_is}
-use Rattle.ae_streamed.specs.Controls.{net}
+use Rattle.ae_control.specs.Controls.{net}
 use Rattle.ae_streamed.specs.Room.{IsBegun, IsMade, begun, begun_at}
 use Rattle.ae_clocked.proofs.Added.{net_own}
 

@@ -4,6 +4,7 @@ use Rattle.ae_sttype.specs.StTree.{StTree, st_depth}
 use Rattle.ae_netlist.specs.declared.netlist.NetFault.{NetFault}
 use Rattle.ae_netlist.specs.declared.netlist.NetFault.TheVariants.{Full}
 use Rattle.ae_netlist.specs.Circuit.{Circuit}
+use Rattle.ae_control.specs.Count.{control_cells}
 
 -- the cells of the bit that says that an element of a layout stands: for each level a counter, a mark and a gate
 abbrev pub beat_cells : StTree → ℕ
@@ -17,10 +18,6 @@ any_beat_cells layouts = sum_by (λ s. beat_cells s + 1) layouts + 1
 abbrev pub mark_cells : (inputs outputs : List StTree) → ℕ
 mark_cells inputs outputs = 63 + any_beat_cells inputs + any_beat_cells outputs
 
--- of the control of a circuit whose latency is so many blocks and some clocks
-abbrev pub control_cells : (blocks : ℕ) → ℕ
-control_cells blocks = 4 * blocks + 35
-
 -- of a circuit that is held, between two channels: at most a gate for each cell that it had, two inputs, the control,
 -- and four for each output
 abbrev pub wrapped_cells : (cells outputs blocks : ℕ) → ℕ
@@ -30,10 +27,6 @@ wrapped_cells cells outputs blocks = 2 * cells + 2 + control_cells blocks + 4 * 
 abbrev pub stream_cells : Circuit → (inputs outputs : List StTree) → (blocks : ℕ) → ℕ
 stream_cells n inputs outputs blocks =
     wrapped_cells (length n.cells + mark_cells inputs outputs) (length n.outlets) blocks
-
--- the refusal for want of room comes only where there is none for so many cells more
-abbrev pub IsFullFor : {X : Type 0} → Result X NetFault → Circuit → (count : ℕ) → Type 0
-IsFullFor r nl count = IfErr r (λ fault. fault ≡ Full → nl.limit ≤ length nl.cells + count)
 
 -- only where the circuit is large, so that its cells and those of its marks, or all around it, pass these limits
 abbrev pub IsFullForStream : {X : Type 0} → Result X NetFault → Circuit → (inputs outputs : List StTree) → (blocks : ℕ)

@@ -7,12 +7,12 @@ ghost use Rattle.ae_stall.specs.Copies.{HasLogicAround, IsCopied, MayBeHeld, res
 ghost use Rattle.ae_stall.specs.Held.{IsHeld};
 ghost use Rattle.ae_stall.specs.Images.{placed_net};
 ghost use Rattle.ae_streamed.specs.Between.{AreMarkNets, AreShownBy, HasDriver, IsWrapped, channel_inputs, copied_nets, wires_of};
-ghost use Rattle.ae_streamed.specs.Controls.{AreWires};
-ghost use Rattle.ae_streamed.specs.Count.{IsFullFor, control_cells, wrapped_cells};
+ghost use Rattle.ae_control.specs.Controls.{AreWires};
+ghost use Rattle.ae_control.specs.Count.{IsFullFor, control_cells};
+ghost use Rattle.ae_streamed.specs.Count.{wrapped_cells};
 
-use crate::driver::{Controlled, Wires, control};
 use crate::marking::Marks;
-use crate::queues::columns;
+use ae_control::{Controlled, Wires, columns, control};
 use ae_netlist::{Handshake, NetFault, NetId, Netlist, Outlet, Port};
 use ae_stall::{HoldBy, copy_with, hold_copy};
 use std::alloc::Global;

@@ -3,7 +3,7 @@ use Rattle.std.proofs.Common.{◌≡◌, Some, slice_get, max, map, take, length
 use Rattle.std.proofs.Math.Seq.{take-length}
 use Rattle.std.proofs.lemmas.Option.{slice_get-get_or}
 use Rattle.ae_sttype.specs.StTree.{st_tree}
-use Rattle.ae_streamed.proofs.Cells.{next_first}
+use Rattle.ae_control.proofs.Cells.{next_first}
 use Rattle.ae_streamed.proofs.Last.{IsLastOf, beat_below, last_is, last_more, last_none, of_one}
 use Rattle.ae_streamed.proofs.streaming.last_beat.Goals as goal
 

@@ -3,7 +3,7 @@ use Rattle.std.proofs.Common.{◌∷◌, ◌++◌, [], take, ap, sym, ◌∙◌}
 use Rattle.ae_netlist.specs.declared.cell.Outlet.{Outlet}
 use Rattle.ae_stall.specs.Images.{placed_net}
 use Rattle.ae_streamed.specs.Between.{copied_nets}
-use Rattle.ae_streamed.proofs.Cells.{next_first}
+use Rattle.ae_control.proofs.Cells.{next_first}
 use Rattle.ae_streamed.proofs.wrapping.outlet_nets.Goals as goal
 use Rattle.ae_clocked.proofs.Added.{net_within}
 

@@ -4,7 +4,7 @@ use Rattle.std.proofs.Common.{length, ap, sym, ◌∙◌, arith, subst}
 use Rattle.std.proofs.lemmas.List.{length-map}
 use Rattle.ae_netlist.specs.declared.cell.Outlet.{Outlet}
 use Rattle.ae_stall.specs.Images.{placed_net}
-use Rattle.ae_streamed.specs.Controls.{AreWires}
+use Rattle.ae_control.specs.Controls.{AreWires}
 use Rattle.ae_streamed.proofs.Copied.{copied_wires, is_wrapped, made_nets, may_be_held}
 use Rattle.ae_streamed.proofs.wrapping.wrap.Goals as goal
 

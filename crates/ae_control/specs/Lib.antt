@@ -1,0 +1,4 @@
+pub mod Count
+pub mod Cells
+pub mod Controls
+pub mod Columns

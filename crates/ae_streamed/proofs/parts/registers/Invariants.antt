@@ -1,5 +1,0 @@
-use Rattle.ae_streamed.specs.Cells.{HasRegisters}
-use Rattle.ae_streamed.proofs.parts.registers.Given as goal
-
-abbrev pub invariant-loop-i : goal.invariant-loop-i
-invariant-loop-i l = HasRegisters l.fn.nl l.nl l.i

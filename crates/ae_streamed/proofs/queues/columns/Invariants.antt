@@ -1,5 +1,0 @@
-use Rattle.ae_streamed.proofs.Queued.{HasSome}
-use Rattle.ae_streamed.proofs.queues.columns.Given as goal
-
-abbrev pub invariant-loop-k : goal.invariant-loop-k
-invariant-loop-k l = HasSome l.fn.nl l.nl l.c l.made l.k
