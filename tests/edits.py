@@ -172,7 +172,8 @@ def main(names):
     wanted = lambda edit: {edit.parts[-3], f"{edit.parts[-3]}/{edit.stem}", f"{edit.parts[-3]}/{edit.name}"} & {*names}
     edits = [edit for edit in edits if (wanted(edit) if names and twins else twins or edit.parent.name == "planted")]
     lacking = [it for it, uses in named().items() for it in uses if it in named() and not (TOP / f"crates/{it}/out/rlib").is_dir()]
-    odd = [line for edit in edits for line in misplaced(edit)] or [f"{lacking[0]} is not built here: rt ci builds all libraries"] * bool(lacking)
+    odd = [line for edit in edits for line in misplaced(edit)]
+    odd += [f"{it} is not built here: rt ci builds all libraries" for it in lacking[:1]]
     if odd or not edits:
         print("\n".join(odd or [f"edits: none is called {' or '.join(names)}"]))
         return 1
