@@ -1,6 +1,6 @@
 #!/usr/bin/env bash
 # Measures the gate from nothing, in a fresh clone of what is committed: processor minutes by crate and kind (proof, tests,
-# must-fail edits, builds), and the wall seconds of each script behind it. To be run alone on the machine; it takes as long
+# planted bugs, builds), and the wall seconds of each script behind it. To be run alone on the machine; it takes as long
 # as the gate. The table goes to standard output, the gate's own words to bench/gate.log (not committed).
 set -eu
 cd "$(dirname "$0")/.."
@@ -10,7 +10,8 @@ trap 'rm -rf -- "$dir"' EXIT
 git clone -q . "$dir/repository"
 cd "$dir/repository"
 status=0
-python3 -B "$top/bench/gate_times.py" "$dir/table" rt ci --anew >"$top/bench/gate.log" 2>&1 || status=$?
+gate='rt ci --anew && bash tests/edits.sh --planted'
+python3 -B "$top/bench/gate_times.py" "$dir/table" bash -c "$gate" >"$top/bench/gate.log" 2>&1 || status=$?
 date +%F
 echo "$(rt version), $(nproc) processors"
 cat "$dir/table"

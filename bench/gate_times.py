@@ -47,7 +47,7 @@ def purpose(process):
         folder = os.readlink(f"/proc/{process}/cwd")
     except OSError:
         return None
-    if re.match(r"rt-edit-", os.path.basename(folder)):
+    if re.match(r"rt-edit-|planted-", os.path.basename(folder)):
         return crate, "edits"
     if "--test" in words:
         return crate, "tests"

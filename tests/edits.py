@@ -27,7 +27,7 @@ def pairs(edit):
 
 
 def function_at(file, text, place):
-    """The path below its crate of the function in whose text a place stands, as the prover names it, or of its file's module."""
+    """The end of the path by which the prover names the function in whose text a place stands; its file's module, if it is in none."""
     module = [] if file in ("src/lib.rt", "src/main.rt") else file.removeprefix("src/").removesuffix(".rt").split("/")
     before = re.sub(r"//[^\n]*", "", text[:place])
     name = None
@@ -38,12 +38,13 @@ def function_at(file, text, place):
     around = None
     for found in re.finditer(r"(?m)^(?:impl\b(?:<[^>]*>)?\s+(?:(\w+)(?:<[^>]*>)?\s+for\s+)?(\w+)|\})", before[: name.start()]):
         around = found[2] and found[2] + (found[1] or "")
-    return "::".join([*module, *([around] if around else []), name[1]])
+    # a method is named by the module of its type, which another file may have
+    return "::".join([around, name[1]] if around else [*module, name[1]])
 
 
 def functions(crate, edit):
-    """Those in which an edit changes something."""
-    found = set()
+    """Those in which an edit changes something, and those that its lines `only:` name."""
+    found = {line.partition(": ")[2].strip() for line in edit.read_text().splitlines() if line.startswith("only: ")}
     for file, old, *_ in pairs(edit):
         text = (crate / file).read_text()
         found.add(function_at(file, text, text.index(old)))
@@ -87,7 +88,7 @@ def link(one, other):
 def checked(crate, changes, only, kept, begin=None):
     """What a check of some functions of a copy of the crate says where each text is replaced by another, over what begin holds; it
     keeps in kept what it proved."""
-    with tempfile.TemporaryDirectory() as room:
+    with tempfile.TemporaryDirectory(prefix="planted-") as room:
         copy = pathlib.Path(room)
         for part in PARTS:
             if (crate / part).is_dir():
@@ -124,9 +125,9 @@ def twin_proved(done):
     return done.returncode == 0, "twin still proved" if done.returncode == 0 else f"TWIN FALLS TOO: {' '.join(told[:1])[:200]}"
 
 
-def try_crate(crate, edits, twins):
+def try_crate(crate, edits, bugs, twins):
     """Lines to print of the edits of a crate, and how many passed: first the functions that they change as they stand, and over
-    what that proved each bug of planted/ and, where asked for, each twin."""
+    what that proved, as asked for, each bug of planted/ and each twin."""
     lines, passed = [], 0
     with tempfile.TemporaryDirectory() as room:
         only = sorted({it for edit in edits for it in functions(crate, edit)})
@@ -135,7 +136,7 @@ def try_crate(crate, edits, twins):
             return [f"{crate.name}: NOT PROVED AS IT STANDS: {' '.join(stands.stdout.splitlines()[-1:])[:200]}"], 0
         for number, edit in enumerate(edits):
             answers = []
-            for place, judge in [(2, bug_refused)] * (edit.parent.name == "planted") + [(3, twin_proved)] * twins:
+            for place, judge in [(2, bug_refused)] * (bugs and edit.parent.name == "planted") + [(3, twin_proved)] * twins:
                 changes = [(pair[0], pair[1], pair[place]) for pair in pairs(edit) if pair[place] is not None]
                 if not changes:
                     answers.append((False, "has no twin"))
@@ -168,9 +169,9 @@ def main(names):
     edits = sorted([*TOP.glob("crates/*/must-fail/*.edit"), *TOP.glob("crates/*/planted/*.edit")])
     if names == ["--look"]:
         return look(edits)
-    twins = names != ["--planted"]
+    bugs, twins = names != ["--twins"], names != ["--planted"]
     wanted = lambda edit: {edit.parts[-3], f"{edit.parts[-3]}/{edit.stem}", f"{edit.parts[-3]}/{edit.name}"} & {*names}
-    edits = [edit for edit in edits if (wanted(edit) if names and twins else twins or edit.parent.name == "planted")]
+    edits = [edit for edit in edits if (wanted(edit) if names and bugs and twins else twins or edit.parent.name == "planted")]
     lacking = [it for it, uses in named().items() for it in uses if it in named() and not (TOP / f"crates/{it}/out/rlib").is_dir()]
     odd = [line for edit in edits for line in misplaced(edit)]
     odd += [f"{it} is not built here: rt ci builds all libraries" for it in lacking[:1]]
@@ -182,7 +183,9 @@ def main(names):
         by_crate.setdefault(edit.parent.parent, []).append(edit)
     passed = 0
     with concurrent.futures.ThreadPoolExecutor(len(os.sched_getaffinity(0))) as pool:
-        runs = [pool.submit(try_crate, crate, found, twins) for crate, found in by_crate.items()]
+        # those with the most first, so that none of them is left alone at the end
+        most_first = sorted(by_crate.items(), key=lambda it: -len(it[1]))
+        runs = [pool.submit(try_crate, crate, found, bugs, twins) for crate, found in most_first]
         for run in concurrent.futures.as_completed(runs):
             lines, good = run.result()
             print("\n".join(lines), flush=True)

@@ -1,5 +1,0 @@
-use Rattle.ae_clocked.proofs.Added.{connects}
-use Rattle.ae_clocked.proofs.gates.close.Goals as goal
-
-pub returns : goal.returns
-returns c = connects _ c.connect.new.self c.args.r c.args.next _ c.requires.register c.connect.ensures
