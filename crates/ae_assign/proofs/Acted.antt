@@ -1,5 +1,5 @@
 -- What a statement makes of what is next, from what its parts make of it.
-use Rattle.std.proofs.Common.{ℕ, ◌==◌, ◌&&◌, ◌+◌, ◌*◌, ◌≤◌, Bool, not, List, length, Option, Some, Result, Ok, Err, OnOk, refl, arith}
+use Rattle.std.proofs.Common.{ℕ, ◌==◌, ◌&&◌, ◌+◌, ◌*◌, Bool, not, List, Option, Some, Result, Ok, Err, OnOk, refl, arith}
 use Rattle.ae_word.specs.WordTable.{bit}
 use Rattle.ae_netlist.specs.declared.cell.NetId.{NetId}
 use Rattle.ae_netlist.specs.Circuit.{Circuit}
@@ -8,30 +8,26 @@ use Rattle.ae_vmodule.specs.ModuleTree.{ExprTree, StmtTree, when, either, block_
 use Rattle.ae_judge.specs.Names.{stmt_targets}
 use Rattle.ae_judge.specs.Weight.{expr_weight, stmt_weight}
 use Rattle.ae_runs.specs.Values.{own_value}
-use Rattle.ae_gates.specs.Cells.{GrowsByGates, IsWord}
+use Rattle.ae_gates.specs.Cells.{AddsGates, IsWord}
 use Rattle.ae_runs.specs.Named.{AreNamed, read}
 use Rattle.ae_assign.specs.Edges.{Acts, FitNexts, IsActed, IsGuard, OthersKeep}
 use Rattle.ae_assign.specs.declared.statements.Next.{Next}
-use Rattle.ae_gates.proofs.Words.{grows_refl, grows_trans}
+use Rattle.ae_gates.proofs.Words.{adds_sum, adds_within, grows_refl}
 use Rattle.ae_assign.proofs.EdgeLaws.{when_acts, either_acts}
 use Rattle.ae_assign.proofs.EdgeFits.{others_both, weight_more}
 
 module _ (from : ℕ) (ns : List NetTree) (ys : List (Option NetId)) (guard : Option NetId) where
   -- a call that says so clause by clause
-  pub acted : {A E : Type 0} (r : Result A E) (old new : Circuit) (before after : List Next) (s : StmtTree) → OnOk r (GrowsByGates old new)
-      → OnOk r (length old.cells ≤ length new.cells) → OnOk r (length new.cells ≤ length old.cells + 8 * stmt_weight 0 s)
-      → OnOk r (FitNexts ns after new.cells) → OnOk r (OthersKeep ns before after (stmt_targets s))
+  pub acted : {A E : Type 0} (r : Result A E) (old new : Circuit) (before after : List Next) (s : StmtTree)
+      → OnOk r (AddsGates old new (8 * stmt_weight 0 s)) → OnOk r (FitNexts ns after new.cells) → OnOk r (OthersKeep ns before after (stmt_targets s))
       → OnOk r (Acts from ns ys guard old.cells new.cells before after s) → OnOk r (IsActed from ns ys guard old new before after s)
-  acted (Ok x) old new before after s grows more few nexts others
-      acts = record { grows = grows; more = more; few = few; nexts = nexts; others = others; acts = acts }
-  acted (Err e) old new before after s grows more few nexts others acts = tt
+  acted (Ok x) old new before after s adds nexts others acts = record { adds = adds; nexts = nexts; others = others; acts = acts }
+  acted (Err e) old new before after s adds nexts others acts = tt
 
   -- no statement
   pub none_acted : (nl : Circuit) (nexts : List Next) → FitNexts ns nexts nl.cells → IsActed from ns ys guard nl nl nexts nexts block_end
   none_acted nl nexts fits = record {
-    grows = grows_refl nl;
-    more = omega arith;
-    few = omega arith;
+    adds = record { grows = grows_refl nl; more = omega arith; few = omega arith };
     nexts = fits;
     others = λ n none. refl;
     acts = λ at g named guards all k run is t l. refl;
@@ -39,30 +35,24 @@ module _ (from : ℕ) (ns : List NetTree) (ys : List (Option NetId)) (guard : Op
 
   -- one branch, reached where the test is not 0
   pub when_acted : (m0 m1 m2 m3 : Circuit) (before after : List Next) (test : ExprTree) (s : StmtTree) (none first : NetId)
-      → GrowsByGates m0 m1 → length m0.cells ≤ length m1.cells → length m1.cells ≤ length m0.cells + 8 * expr_weight test + 3
-      → GrowsByGates m1 m2 → length m1.cells ≤ length m2.cells → length m2.cells ≤ length m1.cells + 2
+      → AddsGates m0 m1 (8 * expr_weight test + 3) → AddsGates m1 m2 2
       → ((at : List ℕ → ℕ) → AreNamed ns ys at → IsWord from m1.cells none.0 1 (λ run t. bit (own_value ns (read at run t) test == 0)))
       → ((g b : List Clock → ℕ → Bool) → IsGuard from m1.cells guard g → IsWord from m1.cells none.0 1 (λ run t. bit (b run t))
       → IsWord from m2.cells first.0 1 (λ run t. bit (g run t && not (b run t))))
       → IsActed from ns ys (Some first) m2 m3 before after s → IsActed from ns ys guard m0 m3 before after (when test s)
-  when_acted m0 m1 m2 m3 before after test s none first g1 a1 f1 g2 a2 f2 fails unless h =
+  when_acted m0 m1 m2 m3 before after test s none first p q fails unless h =
       let heavier = weight_more 0 s in
-      let few = h.few in
-      let more = h.more in
       record {
-        grows = grows_trans g1 (grows_trans g2 h.grows);
-        more = omega arith;
-        few = omega arith;
+        adds = adds_within (omega arith) (adds_sum p (adds_sum q h.adds));
         nexts = h.nexts;
         others = h.others;
-        acts = when_acts from ns ys guard m0 m1 m2 m3 before after test s none first g1 fails unless h.acts;
+        acts = when_acts from ns ys guard m0 m1 m2 m3 before after test s none first p.grows fails unless h.acts;
       }
 
   -- two branches
   pub either_acted : (m0 m1 m2 m3 m4 m5 : Circuit) (before mid after : List Next) (test : ExprTree) (s u : StmtTree) (none first second : NetId)
-      → GrowsByGates m0 m1 → length m0.cells ≤ length m1.cells → length m1.cells ≤ length m0.cells + 8 * expr_weight test + 3
-      → GrowsByGates m1 m2 → length m1.cells ≤ length m2.cells → length m2.cells ≤ length m1.cells + 2
-      → GrowsByGates m2 m3 → length m2.cells ≤ length m3.cells → length m3.cells ≤ length m2.cells + 1
+      → AddsGates m0 m1 (8 * expr_weight test + 3) → AddsGates m1 m2 2
+      → AddsGates m2 m3 1
       → ((at : List ℕ → ℕ) → AreNamed ns ys at → IsWord from m1.cells none.0 1 (λ run t. bit (own_value ns (read at run t) test == 0)))
       → ((g b : List Clock → ℕ → Bool) → IsGuard from m1.cells guard g → IsWord from m1.cells none.0 1 (λ run t. bit (b run t))
       → IsWord from m2.cells first.0 1 (λ run t. bit (g run t && not (b run t))))
@@ -70,19 +60,13 @@ module _ (from : ℕ) (ns : List NetTree) (ys : List (Option NetId)) (guard : Op
       → IsWord from m3.cells second.0 1 (λ run t. bit (g run t && b run t)))
       → IsActed from ns ys (Some first) m3 m4 before mid s → IsActed from ns ys (Some second) m4 m5 mid after u
       → IsActed from ns ys guard m0 m5 before after (either test s u)
-  either_acted m0 m1 m2 m3 m4 m5 before mid after test s u none first second g1 a1 f1 g2 a2 f2 g3 a3 f3 fails unless also h i =
+  either_acted m0 m1 m2 m3 m4 m5 before mid after test s u none first second p q r fails unless also h i =
       let heavier = weight_more 0 s in
       let heavier_too = weight_more 0 u in
-      let few = h.few in
-      let few_too = i.few in
-      let more = h.more in
-      let more_too = i.more in
       record {
-        grows = grows_trans g1 (grows_trans g2 (grows_trans g3 (grows_trans h.grows i.grows)));
-        more = omega arith;
-        few = omega arith;
+        adds = adds_within (omega arith) (adds_sum p (adds_sum q (adds_sum r (adds_sum h.adds i.adds))));
         nexts = i.nexts;
         others = others_both ns before mid after (stmt_targets s) (stmt_targets u) h.others i.others;
-        acts = either_acts from ns ys guard m0 m1 m2 m3 m4 m5 before mid after test s u none first second g1 g2 g3 h.grows i.grows fails unless also h.acts
-            i.acts;
+        acts = either_acts from ns ys guard m0 m1 m2 m3 m4 m5 before mid after test s u none first second p.grows q.grows r.grows h.adds.grows i.adds.grows
+            fails unless also h.acts i.acts;
       }

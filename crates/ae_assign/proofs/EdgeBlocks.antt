@@ -6,7 +6,7 @@ use Rattle.ae_netlist.specs.Runs.{Clock, InEveryRunFrom}
 use Rattle.ae_vmodule.specs.ModuleTree.{StmtTree, block_more, NetTree}
 use Rattle.ae_judge.specs.Names.{Among, stmt_targets}
 use Rattle.ae_judge.specs.Weight.{stmt_weight}
-use Rattle.ae_gates.specs.Cells.{GrowsByGates}
+use Rattle.ae_gates.specs.Cells.{AddsGates, GrowsByGates}
 use Rattle.ae_runs.specs.Named.{AreNamed, read}
 use Rattle.ae_runs.specs.Guards.{guarded}
 use Rattle.ae_assign.specs.Edges.{IsSoundStmt, IsReadyStmt, IsGuard, FitNexts, AreFresh, OthersKeep, next_read, Acts, IsActed}
@@ -49,14 +49,16 @@ module _ (from : ℕ) (ns : List NetTree) (ys : List (Option NetId)) (guard : Op
   }
 
   pub acting_step : (mid new : Circuit) (after later : List Next) (s rest : StmtTree) → IsActing from ns ys guard old mid before after whole (block_more s rest)
-      → GrowsByGates mid new → length mid.cells ≤ length new.cells → length new.cells ≤ length mid.cells + 8 * stmt_weight 0 s → FitNexts ns later new.cells
+      → AddsGates mid new (8 * stmt_weight 0 s) → FitNexts ns later new.cells
       → OthersKeep ns after later (stmt_targets s) → Acts from ns ys guard mid.cells new.cells after later s
       → IsActing from ns ys guard old new before later whole rest
-  acting_step mid new after later s rest h grows more few nexts others acts =
+  acting_step mid new after later s rest h adds nexts others acts =
       let less = h.few in
       let longer = h.more in
+      let few = adds.few in
+      let more = adds.more in
       record {
-        grows = grows_trans h.grows grows;
+        grows = grows_trans h.grows adds.grows;
         more = omega arith;
         few = omega arith;
         nexts = nexts;
@@ -67,7 +69,7 @@ module _ (from : ℕ) (ns : List NetTree) (ys : List (Option NetId)) (guard : Op
         others = λ n none. others n (λ a. none (h.within n (among_left n (stmt_targets s) (stmt_targets rest) a))) ∙ h.others n none;
         acts = λ at g named guards all k run is t l.
             ap (guarded ns (read at run t) rest (g run t)) (acts at g named (guard_grows from guard g h.grows guards) all k run is t l)
-            ∙ h.acts at g named guards all (back grows k) run is t l;
+            ∙ h.acts at g named guards all (back adds.grows k) run is t l;
       }
 
   -- what the next statement of the block wants
@@ -80,16 +82,14 @@ module _ (from : ℕ) (ns : List NetTree) (ys : List (Option NetId)) (guard : Op
       → IsActed from ns ys guard mid new after later rest → IsActed from ns ys guard old new before later whole
   acting_last mid new after later rest h last =
       let less = h.few in
-      let few = last.few in
+      let few = last.adds.few in
       let longer = h.more in
-      let more = last.more in
+      let more = last.adds.more in
       record {
-        grows = grows_trans h.grows last.grows;
-        more = omega arith;
-        few = omega arith;
+        adds = record { grows = grows_trans h.grows last.adds.grows; more = omega arith; few = omega arith };
         nexts = last.nexts;
         others = λ n none. last.others n (λ a. none (h.within n a)) ∙ h.others n none;
         acts = λ at g named guards all k run is t l.
             last.acts at g named (guard_grows from guard g h.grows guards) all k run is t l
-            ∙ h.acts at g named guards all (back last.grows k) run is t l;
+            ∙ h.acts at g named guards all (back last.adds.grows k) run is t l;
       }

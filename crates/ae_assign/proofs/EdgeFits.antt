@@ -27,7 +27,7 @@ use Rattle.ae_gates.proofs.Words.{net_grows}
 use Rattle.ae_express.proofs.NetLaws.{name_net, nets_grow}
 
 pub address_grows : (a b : Circuit) (at depth : ℕ) → GrowsByGates a b → IsAddress a.cells at depth → IsAddress b.cells at depth
-address_grows a b at depth g h = address_later a.cells b.cells at depth (keeps_extends g.extends) h
+address_grows a b at depth g h = address_later a.cells b.cells at depth (keeps_extends g.grows.extends) h
 
 pub fits_later : (a b : List SizedCell) (x : NetTree) (k : Next) → Keeps a b → FitsNext a x k → FitsNext b x k
 fits_later a b x Keep keeps h = tt
@@ -38,7 +38,7 @@ pub nexts_keep : (a b : List SizedCell) (ns : List NetTree) (nexts : List Next) 
 nexts_keep a b ns nexts keeps h = record { long = h.long; each = λ p x k here there. fits_later a b x k keeps (h.each p x k here there) }
 
 pub nexts_grow : {ns : List NetTree} {nexts : List Next} {a b : Circuit} → GrowsByGates a b → FitNexts ns nexts a.cells → FitNexts ns nexts b.cells
-nexts_grow {ns} {nexts} {a} {b} g h = nexts_keep a.cells b.cells ns nexts (keeps_extends g.extends) h
+nexts_grow {ns} {nexts} {a} {b} g h = nexts_keep a.cells b.cells ns nexts (keeps_extends g.grows.extends) h
 
 pub same_or_not : (p q : ℕ) → (p ≡ q) ⊎ (p ≢ q)
 same_or_not zero zero = inl refl

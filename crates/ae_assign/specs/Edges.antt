@@ -1,5 +1,5 @@
 -- What registers and memories take at a clock edge, by nets.
-use Rattle.std.specs.Prelude.{◌≡◌, ℕ, ◌+◌, ◌*◌, ◌<◌, ◌≤◌, ◌==◌, ◌≢◌, Bool, true, if◌then◌else◌, List, length, Option, Some, None, get_or, slice_get, slice_set}
+use Rattle.std.specs.Prelude.{◌≡◌, ℕ, ◌*◌, ◌<◌, ◌==◌, ◌≢◌, Bool, true, if◌then◌else◌, List, length, Option, Some, None, get_or, slice_get, slice_set}
 use Rattle.ae_word.specs.WordTable.{bit}
 use Rattle.ae_netlist.specs.declared.cell.NetId.{NetId}
 use Rattle.ae_netlist.specs.declared.cell.SizedCell.{SizedCell}
@@ -14,7 +14,7 @@ use Rattle.ae_runs.specs.Values.{ModuleClock}
 use Rattle.ae_judge.specs.Weight.{stmt_weight}
 use Rattle.ae_runs.specs.Runs.{after_items}
 use Rattle.ae_judge.specs.Faults.{IsRepeated}
-use Rattle.ae_gates.specs.Cells.{GrowsByGates, IsWord}
+use Rattle.ae_gates.specs.Cells.{AddsGates, IsWord}
 use Rattle.ae_runs.specs.Named.{AreNamed, IsNamed, IsReady, place_of, read}
 use Rattle.ae_order.specs.Sound.{IsReadyFor, IsSound}
 use Rattle.ae_runs.specs.Guards.{guarded}
@@ -130,9 +130,7 @@ Acts from ns ys guard before after old new s =
 -- the statement makes of it
 pub record IsActed (from : ℕ) (ns : List NetTree) (ys : List (Option NetId)) (guard : Option NetId) (old new : Circuit)
     (before after : List Next) (s : StmtTree) : Type 0 where
-  pub grows : GrowsByGates old new
-  pub more : length old.cells ≤ length new.cells
-  pub few : length new.cells ≤ length old.cells + 8 * stmt_weight 0 s
+  pub adds : AddsGates old new (8 * stmt_weight 0 s)
   pub nexts : FitNexts ns after new.cells
   pub others : OthersKeep ns before after (stmt_targets s)
   pub acts : Acts from ns ys guard old.cells new.cells before after s

@@ -10,7 +10,8 @@ ghost use Rattle.ae_vmodule.specs.View.{expr_tree, stmt_tree, word_at};
 ghost use Rattle.ae_judge.specs.Names.{depth_of, is_memory_name, stmt_targets};
 ghost use Rattle.ae_judge.specs.Weight.{expr_weight, stmt_weight};
 ghost use Rattle.ae_runs.specs.Values.{own_value};
-ghost use Rattle.ae_gates.specs.Cells.{GrowsByGates, HasRoom, IsWord};
+ghost use Rattle.ae_netlist.specs.Room.{HasRoom};
+ghost use Rattle.ae_gates.specs.Cells.{AddsGates, IsWord};
 ghost use Rattle.ae_runs.specs.Named.{AreNamed, AreNets, read};
 ghost use Rattle.ae_order.specs.Sound.{IsReadyFor, IsSound};
 ghost use Rattle.ae_assign.specs.Edges.{Acts, AreFresh, FitNexts, IsActed, IsAddressWord, IsGuard, IsGuardNet, IsReadyStmt, IsSoFar, IsSoundStmt, IsWordNext, OthersKeep};
@@ -53,9 +54,7 @@ fn fails(
     requires sound { IsSound names.now.nets (expr_tree names.now.words (numbered test)) }
     requires ready { IsReadyFor names.now.nets nets.now (expr_tree names.now.words (numbered test)) }
     requires room { HasRoom nl.old (8 * expr_weight (expr_tree names.now.words (numbered test)) + 3) }
-    ensures grows { OnOk result (GrowsByGates nl.old nl.new) }
-    ensures more { OnOk result (length nl.old.cells ≤ length nl.new.cells) }
-    ensures few { OnOk result (length nl.new.cells ≤ length nl.old.cells + 8 * expr_weight (expr_tree names.now.words (numbered test.entry)) + 3) }
+    ensures adds { OnOk result (AddsGates nl.old nl.new (8 * expr_weight (expr_tree names.now.words (numbered test.entry)) + 3)) }
     ensures net { IfOk result (λ y. IsNet nl.new.cells y.0 1) }
     ensures word { IfOk result (λ y. (at : List ℕ → ℕ) → AreNamed names.now.nets nets.now at → IsWord from nl.new.cells y.0 1 (λ run t. bit (own_value names.now.nets (read at run t) (expr_tree names.now.words (numbered test.entry)) == 0))) }
 {
@@ -71,9 +70,7 @@ fn also(nl: &mut Netlist, from: u32, guard: Option<NetId>, on: NetId) -> Result<
     requires guard { IsGuardNet nl.old.cells guard }
     requires on { IsNet nl.old.cells on.0 1 }
     requires room { HasRoom nl.old 1 }
-    ensures grows { OnOk result (GrowsByGates nl.old nl.new) }
-    ensures more { OnOk result (length nl.old.cells ≤ length nl.new.cells) }
-    ensures few { OnOk result (length nl.new.cells ≤ length nl.old.cells + 1) }
+    ensures adds { OnOk result (AddsGates nl.old nl.new 1) }
     ensures net { IfOk result (λ y. IsNet nl.new.cells y.0 1) }
     ensures word { IfOk result (λ y. (g b : List Clock → ℕ → Bool) → IsGuard from nl.old.cells guard g → IsWord from nl.old.cells on.0 1 (λ run t. bit (b run t)) → IsWord from nl.new.cells y.0 1 (λ run t. bit (g run t && b run t))) }
 {
@@ -93,9 +90,7 @@ fn unless(nl: &mut Netlist, from: u32, guard: Option<NetId>, on: NetId) -> Resul
     requires guard { IsGuardNet nl.old.cells guard }
     requires on { IsNet nl.old.cells on.0 1 }
     requires room { HasRoom nl.old 2 }
-    ensures grows { OnOk result (GrowsByGates nl.old nl.new) }
-    ensures more { OnOk result (length nl.old.cells ≤ length nl.new.cells) }
-    ensures few { OnOk result (length nl.new.cells ≤ length nl.old.cells + 2) }
+    ensures adds { OnOk result (AddsGates nl.old nl.new 2) }
     ensures net { IfOk result (λ y. IsNet nl.new.cells y.0 1) }
     ensures word { IfOk result (λ y. (g b : List Clock → ℕ → Bool) → IsGuard from nl.old.cells guard g → IsWord from nl.old.cells on.0 1 (λ run t. bit (b run t)) → IsWord from nl.new.cells y.0 1 (λ run t. bit (g run t && not (b run t)))) }
 {
@@ -109,9 +104,7 @@ fn reached(nl: &mut Netlist, from: u32, guard: Option<NetId>) -> Result<NetId, A
     requires from { from ≤ length nl.old.cells }
     requires guard { IsGuardNet nl.old.cells guard }
     requires room { HasRoom nl.old 1 }
-    ensures grows { OnOk result (GrowsByGates nl.old nl.new) }
-    ensures more { OnOk result (length nl.old.cells ≤ length nl.new.cells) }
-    ensures few { OnOk result (length nl.new.cells ≤ length nl.old.cells + 1) }
+    ensures adds { OnOk result (AddsGates nl.old nl.new 1) }
     ensures net { IfOk result (λ y. IsNet nl.new.cells y.0 1) }
     ensures word { IfOk result (λ y. (g : List Clock → ℕ → Bool) → IsGuard from nl.old.cells guard g → IsWord from nl.new.cells y.0 1 (λ run t. bit (g run t))) }
 {
@@ -137,9 +130,7 @@ fn taken(
     requires left { IsNet nl.old.cells a.0 width }
     requires right { IsNet nl.old.cells b.0 width }
     requires room { HasRoom nl.old 1 }
-    ensures grows { OnOk result (GrowsByGates nl.old nl.new) }
-    ensures more { OnOk result (length nl.old.cells ≤ length nl.new.cells) }
-    ensures few { OnOk result (length nl.new.cells ≤ length nl.old.cells + 1) }
+    ensures adds { OnOk result (AddsGates nl.old nl.new 1) }
     ensures net { IfOk result (λ y. IsNet nl.new.cells y.0 width) }
     ensures word { IfOk result (λ y. (g : List Clock → ℕ → Bool) (f h : List Clock → ℕ → ℕ) → IsGuard from nl.old.cells guard g → IsWord from nl.old.cells a.0 width f → IsWord from nl.old.cells b.0 width h → IsWord from nl.new.cells y.0 width (λ run t. if g run t then f run t else h run t)) }
 {
@@ -184,9 +175,7 @@ fn assign(
     requires guard { IsGuardNet nl.old.cells guard }
     requires nexts { FitNexts names.now.nets nexts.old.items nl.old.cells }
     requires room { HasRoom nl.old (8 * (1 + expr_weight (expr_tree names.now.words (numbered value)))) }
-    ensures grows { OnOk result (GrowsByGates nl.old nl.new) }
-    ensures more { OnOk result (length nl.old.cells ≤ length nl.new.cells) }
-    ensures few { OnOk result (length nl.new.cells ≤ length nl.old.cells + 8 * (1 + expr_weight (expr_tree names.now.words (numbered value.entry)))) }
+    ensures adds { OnOk result (AddsGates nl.old nl.new (8 * (1 + expr_weight (expr_tree names.now.words (numbered value.entry))))) }
     ensures nexts { OnOk result (FitNexts names.now.nets nexts.new.items nl.new.cells) }
     ensures others { OnOk result (OthersKeep names.now.nets nexts.old.items nexts.new.items (stmt_targets (set_tree (word_at names.now.words name) (expr_tree names.now.words (numbered value.entry))))) }
     ensures acts { OnOk result (Acts from names.now.nets nets.now guard nl.old.cells nl.new.cells nexts.old.items nexts.new.items (set_tree (word_at names.now.words name) (expr_tree names.now.words (numbered value.entry)))) }
@@ -216,9 +205,7 @@ fn written_at(
     requires ready { IsReadyFor names.now.nets nets.now (index_tree (word_at names.now.words _name) (expr_tree names.now.words (numbered at))) }
     requires memory { is_memory_name names.now.nets (word_at names.now.words _name) ≡ true }
     requires room { HasRoom nl.old (8 * expr_weight (expr_tree names.now.words (numbered at)) + 1) }
-    ensures grows { OnOk result (GrowsByGates nl.old nl.new) }
-    ensures more { OnOk result (length nl.old.cells ≤ length nl.new.cells) }
-    ensures few { OnOk result (length nl.new.cells ≤ length nl.old.cells + 8 * expr_weight (expr_tree names.now.words (numbered at.entry)) + 1) }
+    ensures adds { OnOk result (AddsGates nl.old nl.new (8 * expr_weight (expr_tree names.now.words (numbered at.entry)) + 1)) }
     ensures address { IfOk result (λ y. IsAddress nl.new.cells y.0 (depth_of names.now.nets (word_at names.now.words _name))) }
     ensures word { IfOk result (λ y. (net_at : List ℕ → ℕ) → AreNamed names.now.nets nets.now net_at → IsAddressWord from nl.new.cells y.0 (λ run t. own_value names.now.nets (read net_at run t) (expr_tree names.now.words (numbered at.entry)))) }
 {
@@ -252,9 +239,7 @@ fn write(
     requires nexts { FitNexts names.now.nets nexts.old.items nl.old.cells }
     requires fresh { AreFresh names.now.nets nexts.old.items (stmt_targets (put_tree (word_at names.now.words name) (expr_tree names.now.words (numbered at)) (expr_tree names.now.words (numbered value)))) }
     requires room { HasRoom nl.old (8 * (1 + (expr_weight (expr_tree names.now.words (numbered at)) + expr_weight (expr_tree names.now.words (numbered value))))) }
-    ensures grows { OnOk result (GrowsByGates nl.old nl.new) }
-    ensures more { OnOk result (length nl.old.cells ≤ length nl.new.cells) }
-    ensures few { OnOk result (length nl.new.cells ≤ length nl.old.cells + 8 * (1 + (expr_weight (expr_tree names.now.words (numbered at.entry)) + expr_weight (expr_tree names.now.words (numbered value.entry))))) }
+    ensures adds { OnOk result (AddsGates nl.old nl.new (8 * (1 + (expr_weight (expr_tree names.now.words (numbered at.entry)) + expr_weight (expr_tree names.now.words (numbered value.entry)))))) }
     ensures nexts { OnOk result (FitNexts names.now.nets nexts.new.items nl.new.cells) }
     ensures others { OnOk result (OthersKeep names.now.nets nexts.old.items nexts.new.items (stmt_targets (put_tree (word_at names.now.words name) (expr_tree names.now.words (numbered at.entry)) (expr_tree names.now.words (numbered value.entry))))) }
     ensures acts { OnOk result (Acts from names.now.nets nets.now guard nl.old.cells nl.new.cells nexts.old.items nexts.new.items (put_tree (word_at names.now.words name) (expr_tree names.now.words (numbered at.entry)) (expr_tree names.now.words (numbered value.entry)))) }

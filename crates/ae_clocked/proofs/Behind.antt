@@ -1,26 +1,25 @@
 -- A look behind the counter of a ring taps what is written into it.
-use Rattle.std.proofs.Common.{ℕ, ◌≡◌, ◌+◌, ◌-◌, ◌<◌, ◌≤◌, ◌^◌, ◌%◌, ◌∷◌, [], length, Result, Ok, Err, IfOk, ap, ◌∙◌, subst}
+use Rattle.std.proofs.Common.{ℕ, ◌≡◌, ◌+◌, ◌-◌, ◌<◌, ◌≤◌, ◌^◌, ◌%◌, ◌∷◌, [], length, ap, ◌∙◌, subst}
 use Rattle.ae_word.specs.declared.op.WordOp.TheVariants.{Add}
 use Rattle.ae_netlist.specs.declared.cell.NetId.{NetId}
-use Rattle.ae_netlist.specs.declared.netlist.NetFault.{NetFault}
 use Rattle.ae_netlist.specs.Circuit.{Circuit, IsNet, Extends}
 use Rattle.ae_netlist.specs.Runs.{word_at, InEveryRunFrom}
 use Rattle.ae_netlist.proofs.Growing.{extends_trans}
 use Rattle.ae_netlist.proofs.Carried.{carries_extends}
-use Rattle.ae_clocked.specs.Signals.{Grows, IsConstant, IsNextOf, IsResult}
+use Rattle.ae_gates.specs.Cells.{Grows, IsConstant, IsResult}
+use Rattle.ae_clocked.specs.Signals.{IsNextOf}
 use Rattle.ae_clocked.specs.Delays.{IsTap}
 use Rattle.ae_clocked.specs.Rings.{IsLook, IsRing}
 use Rattle.ae_clocked.proofs.RingLaw.{look_later, register_later}
 
-pub behind_tap : (n0 n1 n2 n3 : Circuit) (r : Result NetId NetFault) (back place m counter : NetId) (w bits tap k : ℕ) → Grows n0 n1 → Grows n1 n2
-    → Grows n2 n3 → IfOk r (λ y. IsNet n3.cells y.0 w)
+pub behind_tap : (n0 n1 n2 n3 : Circuit) (y back place m counter : NetId) (w bits tap k : ℕ) → Grows n0 n1 → Grows n1 n2
+    → Grows n2 n3 → IsNet n3.cells y.0 w
     → InEveryRunFrom (length n0.cells) n1.cells (λ run. IsConstant run back.0 k)
     → InEveryRunFrom (length n1.cells) n2.cells (λ run. IsResult run place.0 Add bits (counter ∷ back ∷ counter ∷ []))
-    → IfOk r (λ y. InEveryRunFrom (length n2.cells) n3.cells (λ run. IsLook run y.0 m.0 place.0))
+    → InEveryRunFrom (length n2.cells) n3.cells (λ run. IsLook run y.0 m.0 place.0)
     → k + tap ≡ 2 ^ bits → 1 ≤ tap
-    → IfOk r (λ y. (rst x : ℕ) → IsRing n0.cells rst bits x counter.0 m.0 → IsTap n3.cells rst w x tap y.0)
-behind_tap n0 n1 n2 n3 (Err e) back place m counter w bits tap k g1 g2 g3 net constant added look sum late = tt
-behind_tap n0 n1 n2 n3 (Ok y) back place m counter w bits tap k g1 g2 g3 net constant added look sum late = λ rst x ring. record {
+    → (rst x : ℕ) → IsRing n0.cells rst bits x counter.0 m.0 → IsTap n3.cells rst w x tap y.0
+behind_tap n0 n1 n2 n3 y back place m counter w bits tap k g1 g2 g3 net constant added look sum late rst x ring = record {
   net = net;
   words = λ all e run is start reset.
       let e2 : Extends n2.cells all = extends_trans g3.extends e in
@@ -32,13 +31,12 @@ behind_tap n0 n1 n2 n3 (Ok y) back place m counter w bits tap k g1 g2 g3 net con
       sum late;
 }
 
-pub kept_tap : (n0 n1 n2 : Circuit) (r : Result NetId NetFault) (word m counter : NetId) (w bits tap before : ℕ) → Grows n1 n2
-    → IfOk r (λ y. IsNet n2.cells y.0 w)
-    → IfOk r (λ y. InEveryRunFrom (length n1.cells) n2.cells (λ run. IsNextOf run y.0 word.0)) → before + 1 ≡ tap
+pub kept_tap : (n0 n1 n2 : Circuit) (y word m counter : NetId) (w bits tap before : ℕ) → Grows n1 n2
+    → IsNet n2.cells y.0 w
+    → InEveryRunFrom (length n1.cells) n2.cells (λ run. IsNextOf run y.0 word.0) → before + 1 ≡ tap
     → ((rst x : ℕ) → IsRing n0.cells rst bits x counter.0 m.0 → IsTap n1.cells rst w x before word.0)
-    → IfOk r (λ y. (rst x : ℕ) → IsRing n0.cells rst bits x counter.0 m.0 → IsTap n2.cells rst w x tap y.0)
-kept_tap n0 n1 n2 (Err e) word m counter w bits tap before g net next sum taps = tt
-kept_tap n0 n1 n2 (Ok y) word m counter w bits tap before g net next sum taps = λ rst x ring. record {
+    → (rst x : ℕ) → IsRing n0.cells rst bits x counter.0 m.0 → IsTap n2.cells rst w x tap y.0
+kept_tap n0 n1 n2 y word m counter w bits tap before g net next sum taps rst x ring = record {
   net = net;
   words = λ all e run is start reset.
       subst (λ (d : ℕ). (c : ℕ) → d ≤ c → start + c < length run → word_at run (start + c) y.0 ≡ word_at run (start + (c - d)) x) sum

@@ -10,7 +10,8 @@ use Rattle.ae_netlist.proofs.Growing.{extends_trans, net_later}
 use Rattle.ae_netlist.proofs.Carried.{carries_extends}
 use Rattle.ae_clocked.specs.declared.clocks.Phase.{Phase}
 use Rattle.ae_clocked.specs.declared.clocks.Mark.{Mark}
-use Rattle.ae_clocked.specs.Signals.{Grows, Counts}
+use Rattle.ae_gates.specs.Cells.{Grows}
+use Rattle.ae_clocked.specs.Signals.{Counts}
 use Rattle.ae_clocked.specs.Phases.{Kept, phase_of, same_phase, kept_at, same_mark, mark_at, HoldsPhases, IsCounter, IsPhaseMark, Belongs, KeepsCounters}
 use Rattle.ae_clocked.proofs.PhaseLemmas.{counts_phase}
 

@@ -1,11 +1,10 @@
 -- One more ring in a row.
-use Rattle.std.proofs.Common.{Bool, true, false, nat_lt, if◌then◌else◌, ℕ, ◌≡◌, ◌+◌, ◌-◌, ◌*◌, ◌/◌, ◌<◌, ◌≤◌, min, inl, inr, List, ◌++◌, ◌∷◌, [], length, Some, slice_get, get_or, Result, Ok, Err, IfOk, arith, ◌∙◌, subst}
+use Rattle.std.proofs.Common.{Bool, true, false, nat_lt, if◌then◌else◌, ℕ, ◌≡◌, ◌+◌, ◌-◌, ◌*◌, ◌/◌, ◌<◌, ◌≤◌, min, inl, inr, List, ◌++◌, ◌∷◌, [], length, Some, slice_get, get_or, arith, ◌∙◌, subst}
 use borrow.Author.Tests.{ltb-true}
 use Rattle.std.proofs.lemmas.Bool.{cases_lt}
 use Rattle.std.proofs.lemmas.Option.{slice_get_within, slice_get-get_or}
 use Rattle.ae_netlist.specs.declared.cell.NetId.{NetId}
 use Rattle.ae_netlist.specs.declared.cell.SizedCell.{SizedCell}
-use Rattle.ae_netlist.specs.declared.netlist.NetFault.{NetFault}
 use Rattle.ae_netlist.specs.Circuit.{IsNet, Extends}
 use Rattle.ae_netlist.proofs.Gets.{get_push_cases}
 use Rattle.ae_clocked.specs.Phases.{Kept, KeepsCounters}
@@ -53,12 +52,11 @@ pub next_head : (a b : List SizedCell) (rst w x j head y d : ℕ) → Extends a 
 next_head a b rst w x j head y d g p q e = subst (λ (n : ℕ). IsTap b rst w x n y) e (taps_add b rst w x head y (4096 * j) 4096 (tap_grows g p) q)
 
 -- a tap of a ring of the row
-pub row_tap : (old new : List SizedCell) (r : Result NetId NetFault) (links : List Link) (link : Link) (w tap k far : ℕ) → Extends old new
+pub row_tap : (old new : List SizedCell) (y : NetId) (links : List Link) (link : Link) (w tap k far : ℕ) → Extends old new
     → slice_get links k ≡ Some link → 4096 * k + far ≡ tap
-    → IfOk r (λ y. (rst x : ℕ) → IsRing old rst link.ring.bits x link.ring.counter.0 link.ring.memory.0 → IsTap new rst w x far y.0)
-    → IfOk r (λ y. (rst x reach : ℕ) → AreLinks old rst w x reach links → IsTap new rst w x tap y.0)
-row_tap old new (Err e) links link w tap k far g found sum taps = tt
-row_tap old new (Ok y) links link w tap k far g found sum taps = λ rst x reach h.
+    → ((rst x : ℕ) → IsRing old rst link.ring.bits x link.ring.counter.0 link.ring.memory.0 → IsTap new rst w x far y.0)
+    → (rst x reach : ℕ) → AreLinks old rst w x reach links → IsTap new rst w x tap y.0
+row_tap old new y links link w tap k far g found sum taps rst x reach h =
     subst (λ (n : ℕ). IsTap new rst w x n y.0) sum
     (taps_add new rst w x link.head.0 y.0 (4096 * k) far (tap_grows g (h.heads k link found)) (taps rst link.head.0 (h.rings k link found).ring))
 

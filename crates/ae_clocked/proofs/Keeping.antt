@@ -1,21 +1,20 @@
 -- Rings go on to hold words as their netlist grows, and as others are made.
-use Rattle.std.proofs.Common.{ℕ, ◌≡◌, ◌+◌, ◌≤◌, nat_eq, Bool, true, false, if◌then◌else◌, List, [], Some, Result, Ok, Err, IfOk, OnOk, arith, ap, sym, ◌∙◌, refl, subst}
+use Rattle.std.proofs.Common.{ℕ, ◌≡◌, ◌+◌, ◌≤◌, nat_eq, Bool, true, false, if◌then◌else◌, List, [], Some, Result, Ok, Err, IfOk, arith, ap, sym, ◌∙◌, refl, subst}
 use Rattle.std.proofs.lemmas.Bool.{eqb-true}
 use Rattle.std.proofs.lemmas.Option.{none-some}
 use Rattle.std.specs.Map.{lookup}
 use Rattle.ae_netlist.specs.declared.cell.NetId.{NetId}
 use Rattle.ae_netlist.specs.declared.cell.SizedCell.{SizedCell}
-use Rattle.ae_netlist.specs.declared.netlist.NetFault.{NetFault}
 use Rattle.ae_netlist.specs.Circuit.{Circuit, Extends, width_of}
 use Rattle.ae_netlist.proofs.Growing.{net_later, net_width}
-use Rattle.ae_clocked.specs.Signals.{Adds}
+use Rattle.ae_gates.specs.Cells.{Adds}
 use Rattle.ae_clocked.specs.Delays.{IsTap}
 use Rattle.ae_clocked.specs.Rings.{AddsMemories}
 use Rattle.ae_clocked.specs.Rows.{AreLinks}
 use Rattle.ae_clocked.specs.declared.row.Link.{Link}
 use Rattle.ae_clocked.specs.KeptRings.{AddsRings, IsRingRow, KeptRings, RingsBelong, ring_row_at}
 use Rattle.ae_clocked.specs.declared.rows.RingRow.{RingRow}
-use Rattle.ae_clocked.proofs.Adding.{grows_refl, grows_trans}
+use Rattle.ae_gates.proofs.Adding.{grows_refl, grows_trans}
 use Rattle.ae_clocked.proofs.InRow.{links_grow}
 
 pub ring_row_grows : {a b : List SizedCell} {rst x : ℕ} {row : RingRow} → Extends a b → IsRingRow a rst x row → IsRingRow b rst x row
@@ -70,23 +69,13 @@ no_rings_added a m left = record { grows = grows_refl a; cells = omega arith; mu
 
 -- ---- results
 
-pub on_ok : {X E : Type 0} {P : Type 0} (r : Result X E) → P → OnOk r P
-on_ok (Ok x) h = h
-on_ok (Err e) h = tt
-
 -- what was read from rings that belong to the netlist
-pub read_tap : (r : Result NetId NetFault) (kept : KeptRings) (rst : ℕ) (old new : List SizedCell) (v w x d : ℕ) → v ≡ w → RingsBelong kept rst old
-    → IfOk r (λ y. (n : ℕ) → RingsBelong kept n old → IsTap new n v x d y.0) → IfOk r (λ y. IsTap new rst w x d y.0)
-read_tap (Ok y) kept rst old new v w x d e h taps = subst (λ (n : ℕ). IsTap new rst n x d y.0) e (taps rst h)
-read_tap (Err e) kept rst old new v w x d same h taps = tt
-
-pub any_tap : (r : Result NetId NetFault) (rst : ℕ) (new : List SizedCell) (w x d : ℕ) → IfOk r (λ y. (n : ℕ) → IsTap new n w x d y.0)
-    → IfOk r (λ y. IsTap new rst w x d y.0)
-any_tap (Ok y) rst new w x d taps = taps rst
-any_tap (Err e) rst new w x d taps = tt
+pub read_tap : (y : NetId) (kept : KeptRings) (rst : ℕ) (old new : List SizedCell) (v w x d : ℕ) → v ≡ w → RingsBelong kept rst old
+    → ((n : ℕ) → RingsBelong kept n old → IsTap new n v x d y.0) → IsTap new rst w x d y.0
+read_tap y kept rst old new v w x d e h taps = subst (λ (n : ℕ). IsTap new rst n x d y.0) e (taps rst h)
 
 -- what is read from the rings of a net
-pub row_taps : (r : Result NetId NetFault) (kept : KeptRings) (x : ℕ) (row : RingRow) (old new : List SizedCell) (v d : ℕ) (links : List Link)
+pub row_taps : {E : Type 0} (r : Result NetId E) (kept : KeptRings) (x : ℕ) (row : RingRow) (old new : List SizedCell) (v d : ℕ) (links : List Link)
     → ring_row_at kept x ≡ Some row → links ≡ row.links.items → v ≡ width_of old x
     → IfOk r (λ y. (rst z reach : ℕ) → AreLinks old rst v z reach links → IsTap new rst v z d y.0)
     → IfOk r (λ y. (rst : ℕ) → RingsBelong kept rst old → IsTap new rst (width_of old x) x d y.0)

@@ -1,5 +1,4 @@
-pub mod Adding
-pub mod Added
+pub mod Connecting
 pub mod Turns
 pub mod PhaseLemmas
 pub mod Belonging

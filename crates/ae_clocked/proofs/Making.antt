@@ -8,9 +8,9 @@ use Rattle.ae_netlist.specs.Circuit.{Circuit, IsMemory, IsNet, Extends}
 use Rattle.ae_netlist.specs.Runs.{HasWords, InEveryResetRun}
 use Rattle.ae_netlist.proofs.Growing.{extends_trans, net_later}
 use Rattle.ae_clocked.specs.Phases.{IsCounter, phase_of}
-use Rattle.ae_clocked.specs.Signals.{Adds}
+use Rattle.ae_gates.specs.Cells.{Adds}
 use Rattle.ae_clocked.specs.Delays.{IsTap}
-use Rattle.ae_clocked.proofs.Adding.{grows_trans}
+use Rattle.ae_gates.proofs.Adding.{grows_trans}
 use Rattle.ae_clocked.specs.declared.ring.Ring.{Ring}
 use Rattle.ae_clocked.specs.Rings.{AddsMemories, HoldsRing, IsRing}
 

@@ -1,11 +1,10 @@
 -- What one more memory, and a look into one, do to a netlist.
-use Rattle.std.proofs.Common.{ℕ, ◌≡◌, ◌≢◌, ◌<◌, ◌≤◌, ◌^◌, ◌==◌, inl, inr, false, List, ◌++◌, ◌∷◌, [], length, set, take, Some, slice_get, Result, Ok, Err, IfOk, OnOk, OnErr, arith, refl, sym, ap, ◌∙◌, subst, length-append}
+use Rattle.std.proofs.Common.{ℕ, ◌≡◌, ◌≢◌, ◌<◌, ◌≤◌, ◌^◌, ◌==◌, inl, inr, false, List, ◌++◌, ◌∷◌, [], length, set, take, Some, slice_get, Result, Ok, Err, IfOk, OnOk, arith, refl, sym, ap, ◌∙◌, subst, length-append}
 use Rattle.std.proofs.lemmas.Bool.{ne_eqb}
 use Rattle.std.proofs.lemmas.Option.{slice_get_within}
 use Rattle.ae_netlist.specs.declared.cell.NetId.{NetId}
 use Rattle.ae_netlist.specs.declared.cell.Cell.TheVariants.{Mem, Peek}
 use Rattle.ae_netlist.specs.declared.cell.SizedCell.{SizedCell}
-use Rattle.ae_netlist.specs.declared.netlist.NetFault.{NetFault}
 use Rattle.ae_netlist.specs.Circuit.{Circuit, IsNet, IsMemory, IsFormed, IsWritten, Extends, width_of, depth_of, depth_in, new_memory}
 use Rattle.ae_netlist.specs.Counts.{AreWhole, is_input, is_memory, is_mul, count_of, is_register}
 use Rattle.ae_netlist.specs.Runs.{word_at, store_at, InEveryRunFrom}
@@ -14,9 +13,9 @@ use Rattle.ae_netlist.proofs.Growing.{net_later, net_width, width_is, net_from_t
 use Rattle.ae_netlist.proofs.Carried.{carries_extends, carries_later, carries_trans}
 use Rattle.ae_netlist.proofs.Counting.{count_push}
 use Rattle.ae_netlist.proofs.Shapes.{clock_shaped, cell_holds}
-use Rattle.ae_clocked.specs.Signals.{Grows, Adds, IsConstant, is_test}
-use Rattle.ae_clocked.proofs.Added.{IsAdded, grows_length, net_within, own_net}
-use Rattle.ae_clocked.proofs.Adding.{grows_trans, adds_same, stays}
+use Rattle.ae_gates.specs.Cells.{Grows, Adds, IsConstant, is_test}
+use Rattle.ae_gates.proofs.Added.{IsAdded, grows_length, net_within, own_net}
+use Rattle.ae_gates.proofs.Adding.{grows_trans, stays}
 use Rattle.ae_clocked.specs.Rings.{AddsMemories, IsStore, IsLook}
 
 abbrev pub memory_cell : (w d : ℕ) → NetId → NetId → NetId → SizedCell
@@ -93,13 +92,13 @@ adds_peek old new w d m at formed memory place deep e = rw e (record {
   whole = whole_peeked old.cells w d m at formed memory place deep;
 })
 
-pub added_peek : (old new : Circuit) (r : Result NetId NetFault) (w d : ℕ) (m at : NetId) → IsFormed old.cells → IsMemory old.cells m.0 w d
+pub added_peek : {E : Type 0} (old new : Circuit) (r : Result NetId E) (w d : ℕ) (m at : NetId) → IsFormed old.cells → IsMemory old.cells m.0 w d
     → IsNet old.cells at.0 (width_of old.cells at.0) → 2 ^ width_of old.cells at.0 ≤ d
-    → OnOk r (new ≡ record old { cells = old.cells ++ peek_cell w m at ∷ [] }) → OnErr r (new ≡ old) → Adds old new 1 0
-added_peek old new (Ok x) w d m at formed memory place deep ok err = adds_peek old new w d m at formed memory place deep ok
-added_peek old new (Err x) w d m at formed memory place deep ok err = adds_same old new 1 err
+    → OnOk r (new ≡ record old { cells = old.cells ++ peek_cell w m at ∷ [] }) → OnOk r (Adds old new 1 0)
+added_peek old new (Ok x) w d m at formed memory place deep ok = adds_peek old new w d m at formed memory place deep ok
+added_peek old new (Err x) w d m at formed memory place deep ok = tt
 
-pub peek_net : (old new : Circuit) (r : Result NetId NetFault) (w : ℕ) (m at : NetId) → IsAdded old new r (peek_cell w m at)
+pub peek_net : {E : Type 0} (old new : Circuit) (r : Result NetId E) (w : ℕ) (m at : NetId) → IsAdded old new r (peek_cell w m at)
     → IfOk r (λ y. IsNet new.cells y.0 w)
 peek_net old new (Ok y) w m at a = rw (a.1, a.0) (record { sized = peek_cell w m at; found = get_pushed old.cells _; plain = tt; wide = refl })
 peek_net old new (Err e) w m at a = a.0
@@ -108,7 +107,7 @@ peek_word : (cells : List SizedCell) (w : ℕ) (m at : NetId)
     → InEveryRunFrom (length cells) (cells ++ peek_cell w m at ∷ []) (λ run. IsLook run (length cells) m.0 at.0)
 peek_word cells w m at = λ all c run r t l. r.settles t (length cells) (peek_cell w m at) l (c.keeps (length cells) _ (omega arith) (get_pushed cells _))
 
-pub peek_words : (old new : Circuit) (r : Result NetId NetFault) (w : ℕ) (m at : NetId) → IsAdded old new r (peek_cell w m at)
+pub peek_words : {E : Type 0} (old new : Circuit) (r : Result NetId E) (w : ℕ) (m at : NetId) → IsAdded old new r (peek_cell w m at)
     → IfOk r (λ y. InEveryRunFrom (length old.cells) new.cells (λ run. IsLook run y.0 m.0 at.0))
 peek_words old new (Ok y) w m at a = rw (a.1, a.0) (peek_word old.cells w m at)
 peek_words old new (Err e) w m at a = a.0

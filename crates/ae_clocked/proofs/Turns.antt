@@ -1,12 +1,7 @@
 -- What a counter's next word is.
-use Rattle.std.proofs.Common.{ℕ, zero, suc, ◌≡◌, ◌+◌, ◌*◌, ◌<◌, ◌≤◌, ◌%◌, ◌^◌, ◌==◌, if◌then◌else◌, Bool, true, false, List, [], length, get_or, arith, refl}
+use Rattle.std.proofs.Common.{ℕ, zero, suc, ◌≡◌, ◌+◌, ◌*◌, ◌<◌, ◌≤◌, ◌%◌, ◌^◌, ◌==◌, if◌then◌else◌, Bool, true, false, arith, refl}
 use Rattle.std.proofs.Math.Pow.{pow-lt}
 use Rattle.std.specs.Int.Bits.{bit_or, bit_xor, xor_self}
-use Rattle.ae_netlist.specs.declared.cell.SizedCell.{SizedCell}
-use Rattle.ae_netlist.specs.Circuit.{IsNet}
-use Rattle.ae_netlist.specs.Runs.{Clock, IsRun, no_clock, word_at}
-use Rattle.ae_netlist.proofs.NextClock.{plain_fits}
-use Rattle.ae_netlist.proofs.Shapes.{clock_shaped, cell_holds}
 
 pub one_fits : (w : ℕ) → 1 ≤ w → 1 < 2 ^ w
 one_fits w h = pow-lt {i = 0} {j = w} (omega arith)
@@ -26,14 +21,6 @@ pub count_is : (rst r last w turned begin next r' first : ℕ)
 count_is rst r last w turned begin next r' first t b n e = rw (e, n, b, t) refl
 
 -- ---- three bits, without an adder
-
--- the word of a net has no more bits than the net
-pub word_below : (cells : List SizedCell) (run : List Clock) (t n w : ℕ) → IsRun cells run → t < length run → IsNet cells n w → word_at run t n < 2 ^ w
-unfolding word_at
-word_below cells run t n w is l net =
-    let clock : Clock = get_or run t no_clock in
-    rw (← net.wide) (plain_fits net.sized.cell net.sized.width (get_or clock.words n 0) (get_or clock.stores n []) net.plain
-    (cell_holds (clock_shaped is t l) n net.sized net.found))
 
 ones_of : (r : ℕ) → r < 8 → bit_xor r (if r % 2 == 1 then bit_or (r * 2 % 8) 1 else 1) ≡ (r + 1) % 8
 ones_of zero h = refl

@@ -4,7 +4,7 @@ use Rattle.ae_netlist.specs.declared.cell.SizedCell.{SizedCell}
 use Rattle.ae_netlist.specs.Circuit.{Circuit, IsNet, IsMemory}
 use Rattle.ae_netlist.specs.Counts.{AreWhole, count_of, is_memory, is_mul}
 use Rattle.ae_netlist.specs.Runs.{Clock, word_at, store_at, HasWords, InEveryRun, InEveryResetRun}
-use Rattle.ae_clocked.specs.Signals.{Grows}
+use Rattle.ae_gates.specs.Cells.{Grows}
 use Rattle.ae_clocked.specs.declared.ring.Ring.{Ring}
 
 -- a netlist that has grown by at most so many cells, of which at most so many are memories and none multiplies, and in which memories stay whole

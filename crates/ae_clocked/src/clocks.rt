@@ -1,21 +1,22 @@
 // Counters of clocks, made once for each period and offset, and marks, made once for each period, offset and length.
 
-ghost use Rattle.std.specs.Prelude.{◌≡◌, ◌+◌, ◌<◌, ◌≤◌, [], IfOk, OnErr, OnOk, Some, None, Ok, Err, length, ◌≢◌, if◌then◌else◌};
+ghost use Rattle.std.specs.Prelude.{◌≡◌, ◌+◌, ◌<◌, ◌≤◌, [], IfOk, OnErr, OnOk, Some, None, Ok, Err, length, if◌then◌else◌};
 ghost use Rattle.ae_netlist.specs.declared.cell.NetId.{NetId};
 ghost use Rattle.ae_netlist.specs.Circuit.{IsNet};
+ghost use Rattle.ae_netlist.specs.Room.{HasRoom};
 ghost use Rattle.ae_netlist.specs.Counts.{count_of, is_register};
 ghost use Rattle.ae_netlist.specs.Runs.{InEveryResetRun};
 ghost use Rattle.ae_clocked.specs.declared.clocks.Phase.{Phase};
 ghost use Rattle.ae_clocked.specs.declared.clocks.Mark.{Mark};
-ghost use Rattle.ae_clocked.specs.Signals.{Adds, IsFullAt, is_test};
+ghost use Rattle.ae_gates.specs.Cells.{Adds, is_test};
 ghost use Rattle.ae_clocked.specs.Phases.{Belongs, HoldsPhases, IsCounter, IsMark, IsPhaseMark, KeepsCounters, MarksPhases, kept_at, made_of, mark_at, same_mark, same_phase};
 
 use crate::counter::counter;
 use crate::marks::marked;
-use ae_netlist::{NetFault, NetId, Netlist};
+use ae_netlist::{NetId, Netlist};
 use ae_word::Width;
 use indexmap::IndexMap;
-use std::alloc::Global;
+use std::alloc::{AllocError, Global};
 use std::marker::Model;
 
 /// What a counter counts: the clocks from `offset` on, from 0 to `period - 1` and round again.
@@ -81,17 +82,16 @@ impl Clocks {
         self.counters.get(&phase).copied()
     }
 
-    fn keep(&mut self, phase: Phase, net: NetId) -> Result<(), NetFault>
+    fn keep(&mut self, phase: Phase, net: NetId) -> Result<(), AllocError>
         ensures kept { OnOk result ((q : Phase) → kept_at self.new q ≡ (if same_phase phase q then Some net else kept_at self.old q)) }
         ensures rst { self.new.rst ≡ self.old.rst }
         ensures marks { self.new.marks ≡ self.old.marks }
         ensures more { OnOk result (kept_at self.old phase ≡ None → made_of self.new ≡ made_of self.old + 1) }
         ensures err { OnErr result (self.new ≡ self.old) }
-        ensures fault { result ≢ Err NetFault.Full }
     {
         match self.counters.insert(phase, net) {
             Ok(_) => Ok(()),
-            Err(_) => Err(NetFault::Memory),
+            Err(_) => Err(AllocError),
         }
     }
 
@@ -101,36 +101,34 @@ impl Clocks {
         self.marks.get(&mark).copied()
     }
 
-    fn keep_mark(&mut self, mark: Mark, net: NetId) -> Result<(), NetFault>
+    fn keep_mark(&mut self, mark: Mark, net: NetId) -> Result<(), AllocError>
         ensures kept { OnOk result ((q : Mark) → mark_at self.new q ≡ (if same_mark mark q then Some net else mark_at self.old q)) }
         ensures rst { self.new.rst ≡ self.old.rst }
         ensures counters { self.new.counters ≡ self.old.counters }
         ensures more { OnOk result (mark_at self.old mark ≡ None → length self.new.marks ≡ length self.old.marks + 1) }
         ensures err { OnErr result (self.new ≡ self.old) }
-        ensures fault { result ≢ Err NetFault.Full }
     {
         match self.marks.insert(mark, net) {
             Ok(_) => Ok(()),
-            Err(_) => Err(NetFault::Memory),
+            Err(_) => Err(AllocError),
         }
     }
 
     /// The net that counts the clocks after reset from `offset` on, from 0 to `period - 1` and round again: in clock c
     /// its word is `(c + period - offset) mod period`. Its width is the least one that holds them. A counter that was
-    /// made before is answered again, and nothing is added; a new one takes at most 12 cells. `Full` comes only where
-    /// the netlist has `limit` cells as the call ends; after a refusal it may hold further cells.
-    pub fn phase(&mut self, nl: &mut Netlist, period: u32, offset: u32) -> Result<NetId, NetFault>
+    /// made before is answered again, and nothing is added; a new one takes at most 12 cells.
+    pub fn phase(&mut self, nl: &mut Netlist, period: u32, offset: u32) -> Result<NetId, AllocError>
         requires belongs { Belongs self.old nl.old.cells }
         requires low { offset < period }
         requires high { period ≤ 4096 }
-        ensures belongs { Belongs self.new nl.new.cells }
-        ensures adds { Adds nl.old nl.new 12 0 }
+        requires room { HasRoom nl.old 12 }
+        ensures belongs { OnOk result (Belongs self.new nl.new.cells) }
+        ensures adds { OnOk result (Adds nl.old nl.new 12 0) }
         ensures registers { OnOk result (count_of is_register nl.new.cells + made_of self.old ≤ count_of is_register nl.old.cells + made_of self.new) }
         ensures tests { OnOk result (count_of is_test nl.new.cells + made_of self.old ≤ count_of is_test nl.old.cells + made_of self.new) }
         ensures gained { OnOk result (made_of self.new ≤ made_of self.old + 1) }
-        ensures marks { self.new.marks ≡ self.old.marks }
-        ensures full { IsFullAt result nl.new }
-        ensures rst { self.new.rst ≡ self.old.rst }
+        ensures marks { OnOk result (self.new.marks ≡ self.old.marks) }
+        ensures rst { OnOk result (self.new.rst ≡ self.old.rst) }
         ensures again { (net : NetId) → kept_at self.old (record { period = period; offset = offset }) ≡ Some net → (result ≡ Ok net) × (nl.new ≡ nl.old) × (self.new ≡ self.old) }
         ensures keeps { IfOk result (λ net. (q : Phase) → kept_at self.new q ≡ (if same_phase (record { period = period; offset = offset }) q then Some net else kept_at self.old q)) }
         ensures refused { OnErr result (self.new ≡ self.old) }
@@ -154,7 +152,7 @@ impl Clocks {
         counter: NetId,
         at: u32,
         mark: Mark,
-    ) -> Result<NetId, NetFault>
+    ) -> Result<NetId, AllocError>
         requires belongs { Belongs self.old nl.old.cells }
         requires counter { IsCounter nl.old.cells self.old.rst (record { period = mark.period; offset = at }) counter.0 }
         requires new { mark_at self.old mark ≡ None }
@@ -162,14 +160,14 @@ impl Clocks {
         requires low { mark.offset < mark.period }
         requires high { mark.period ≤ 4096 }
         requires within { mark.from ≤ mark.period }
-        ensures belongs { Belongs self.new nl.new.cells }
-        ensures counters { self.new.counters ≡ self.old.counters }
-        ensures rst { self.new.rst ≡ self.old.rst }
-        ensures adds { Adds nl.old nl.new 9 0 }
+        requires room { HasRoom nl.old 9 }
+        ensures belongs { OnOk result (Belongs self.new nl.new.cells) }
+        ensures counters { OnOk result (self.new.counters ≡ self.old.counters) }
+        ensures rst { OnOk result (self.new.rst ≡ self.old.rst) }
+        ensures adds { OnOk result (Adds nl.old nl.new 9 0) }
         ensures registers { OnOk result (count_of is_register nl.new.cells ≤ count_of is_register nl.old.cells + 1) }
         ensures tests { OnOk result (count_of is_test nl.new.cells ≤ count_of is_test nl.old.cells + 2) }
         ensures gained { OnOk result (length self.new.marks ≡ length self.old.marks + 1) }
-        ensures full { IsFullAt result nl.new }
         ensures mark { IfOk result (λ y. IsPhaseMark nl.new.cells self.old.rst mark y.0) }
     {
         let y = marked(
@@ -187,8 +185,7 @@ impl Clocks {
 
     /// The bit that is 1 in those clocks after reset in which the phase of this counter is below `from`, and else 0: what a
     /// comparison of the counter would say, but kept in a register, where that is smaller. A mark of these clocks that was
-    /// made before is answered again, and nothing is added; a new one takes at most 9 cells. `Full` comes only where the
-    /// netlist has `limit` cells as the call ends; after a refusal it may hold further cells.
+    /// made before is answered again, and nothing is added; a new one takes at most 9 cells.
     pub fn mark(
         &mut self,
         nl: &mut Netlist,
@@ -196,19 +193,19 @@ impl Clocks {
         period: u32,
         offset: u32,
         from: u32,
-    ) -> Result<NetId, NetFault>
+    ) -> Result<NetId, AllocError>
         requires belongs { Belongs self.old nl.old.cells }
         requires counter { IsCounter nl.old.cells self.old.rst (record { period = period; offset = offset }) phase.0 }
         requires low { offset < period }
         requires high { period ≤ 4096 }
         requires within { from ≤ period }
-        ensures belongs { Belongs self.new nl.new.cells }
-        ensures keeps { KeepsCounters self.old self.new }
-        ensures adds { Adds nl.old nl.new 9 0 }
+        requires room { HasRoom nl.old 9 }
+        ensures belongs { OnOk result (Belongs self.new nl.new.cells) }
+        ensures keeps { OnOk result (KeepsCounters self.old self.new) }
+        ensures adds { OnOk result (Adds nl.old nl.new 9 0) }
         ensures registers { OnOk result (count_of is_register nl.new.cells + made_of self.old ≤ count_of is_register nl.old.cells + made_of self.new) }
         ensures tests { OnOk result (count_of is_test nl.new.cells + made_of self.old + length self.old.marks ≤ count_of is_test nl.old.cells + made_of self.new + length self.new.marks) }
         ensures gained { OnOk result (length self.new.marks ≤ length self.old.marks + 1) }
-        ensures full { IsFullAt result nl.new }
         ensures net { IfOk result (λ y. IsNet nl.new.cells y.0 1) }
         ensures marks { IfOk result (λ y. InEveryResetRun nl.new.cells self.old.rst (λ run start. IsMark run start y.0 phase.0 from)) }
     {
@@ -252,8 +249,7 @@ impl Clocks {
     /// The bit that is 1 in the first `from` clocks of each period from the clock `offset` after reset on, and else 0. It is
     /// told by a counter of that period that was made lately, or by one that is made now and begins in the clock `wanted`:
     /// where a later stage will ask for a counter, the two can share it. A mark of these clocks that was made before is
-    /// answered again, and nothing is added; a new one takes at most 21 cells. `Full` comes only where
-    /// the netlist has `limit` cells as the call ends; after a refusal it may hold further cells.
+    /// answered again, and nothing is added; a new one takes at most 21 cells.
     pub fn lead(
         &mut self,
         nl: &mut Netlist,
@@ -261,18 +257,18 @@ impl Clocks {
         offset: u32,
         from: u32,
         wanted: u32,
-    ) -> Result<NetId, NetFault>
+    ) -> Result<NetId, AllocError>
         requires belongs { Belongs self.old nl.old.cells }
         requires low { offset < period }
         requires wanted { wanted < period }
         requires high { period ≤ 4096 }
         requires within { from ≤ period }
-        ensures belongs { Belongs self.new nl.new.cells }
-        ensures keeps { KeepsCounters self.old self.new }
-        ensures adds { Adds nl.old nl.new 21 0 }
+        requires room { HasRoom nl.old 21 }
+        ensures belongs { OnOk result (Belongs self.new nl.new.cells) }
+        ensures keeps { OnOk result (KeepsCounters self.old self.new) }
+        ensures adds { OnOk result (Adds nl.old nl.new 21 0) }
         ensures registers { OnOk result (count_of is_register nl.new.cells + made_of self.old ≤ count_of is_register nl.old.cells + made_of self.new) }
         ensures tests { OnOk result (count_of is_test nl.new.cells + made_of self.old + length self.old.marks ≤ count_of is_test nl.old.cells + made_of self.new + length self.new.marks) }
-        ensures full { IsFullAt result nl.new }
         ensures net { IfOk result (λ y. IsNet nl.new.cells y.0 1) }
         ensures marks { IfOk result (λ y. InEveryResetRun nl.new.cells self.old.rst (λ run start. MarksPhases run start y.0 period offset from)) }
     {

@@ -2,19 +2,21 @@
 
 ghost use Rattle.std.specs.Prelude.{◌≡◌, ◌<◌, ◌≤◌, ◌+◌, ◌-◌, ◌*◌, ◌/◌, ◌^◌, ◌&&◌, ℕ, length, get_or, IfOk, OnOk, Some, slice_get, nat_lt, nat_le, min, if◌then◌else◌};
 ghost use Rattle.ae_netlist.specs.Circuit.{IsNet, width_of};
+ghost use Rattle.ae_netlist.specs.Room.{HasRoom};
 ghost use Rattle.ae_netlist.specs.Counts.{AreWhole, count_of, is_memory, is_mul, is_register};
-ghost use Rattle.ae_clocked.specs.Signals.{Adds, Grows, IsFullAt, is_test};
+ghost use Rattle.ae_gates.specs.Cells.{Adds, Grows, is_test};
 ghost use Rattle.ae_clocked.specs.Phases.{Belongs, KeepsCounters, made_of};
 ghost use Rattle.ae_clocked.specs.Delays.{AreDelays, AreTaps, IsTap, greatest_of, line_cells};
 ghost use Rattle.ae_clocked.specs.Rings.{AddsMemories, rings};
 ghost use Rattle.ae_clocked.specs.Rows.{AreLinks};
 
 use crate::clocks::Clocks;
-use crate::gates::{delayed, width_at};
+use crate::registers::delayed;
 use crate::row::{Link, far_tap, make_row};
-use ae_netlist::{NetFault, NetId, Netlist};
+use ae_gates::width_at;
+use ae_netlist::{NetId, Netlist};
 use ae_word::Width;
-use std::alloc::Global;
+use std::alloc::{AllocError, Global};
 use std::marker::Model;
 
 /// The taps of a line, in the order in which they were asked for.
@@ -49,12 +51,12 @@ pub(crate) fn chain(
     x: NetId,
     width: Width,
     count: u32,
-) -> Result<Vec<NetId>, NetFault>
-    requires { IsNet nl.old.cells x.0 width }
-    ensures adds { Adds nl.old nl.new count 0 }
-    ensures registers { count_of is_register nl.new.cells ≤ count_of is_register nl.old.cells + count }
-    ensures tests { count_of is_test nl.new.cells ≤ count_of is_test nl.old.cells }
-    ensures full { IsFullAt result nl.new }
+) -> Result<Vec<NetId>, AllocError>
+    requires net { IsNet nl.old.cells x.0 width }
+    requires room { HasRoom nl.old count }
+    ensures adds { OnOk result (Adds nl.old nl.new count 0) }
+    ensures registers { OnOk result (count_of is_register nl.new.cells ≤ count_of is_register nl.old.cells + count) }
+    ensures tests { OnOk result (count_of is_test nl.new.cells ≤ count_of is_test nl.old.cells) }
     ensures delays { IfOk result (λ nets. AreDelays nl.new.cells width x.0 nets.items) }
     ensures long { IfOk result (λ nets. length nets.items ≡ count + 1) }
 {
@@ -80,25 +82,24 @@ fn greatest(taps: &[u32]) -> u32
 
 /// The words of `x`, as many clocks later as each tap says: from clock d after reset on, a tap of d has the word that `x`
 /// had d clocks before. Of the greatest tap A and the number n of taps above 0 it takes at most `8 * A + 4 * n` cells.
-/// `Full` comes only where the netlist has `limit` cells as the call ends; after a refusal it may hold further cells.
 pub fn line(
     alloc: Global,
     nl: &mut Netlist,
     x: NetId,
     taps: &[u32],
     clocks: &mut Clocks,
-) -> Result<Tapped, NetFault>
+) -> Result<Tapped, AllocError>
     requires belongs { Belongs clocks.old nl.old.cells }
     requires net { IsNet nl.old.cells x.0 (width_of nl.old.cells x.0) }
     requires few { length taps.now < 2 ^ 32 }
-    ensures belongs { Belongs clocks.new nl.new.cells }
-    ensures grows { Grows nl.old nl.new }
-    ensures cells { length nl.new.cells ≤ length nl.old.cells + line_cells taps.now }
-    ensures muls { count_of is_mul nl.new.cells ≡ count_of is_mul nl.old.cells }
-    ensures memories { count_of is_memory nl.new.cells ≡ count_of is_memory nl.old.cells }
+    requires room { HasRoom nl.old (line_cells taps.now) }
+    ensures belongs { OnOk result (Belongs clocks.new nl.new.cells) }
+    ensures grows { OnOk result (Grows nl.old nl.new) }
+    ensures cells { OnOk result (length nl.new.cells ≤ length nl.old.cells + line_cells taps.now) }
+    ensures muls { OnOk result (count_of is_mul nl.new.cells ≡ count_of is_mul nl.old.cells) }
+    ensures memories { OnOk result (count_of is_memory nl.new.cells ≡ count_of is_memory nl.old.cells) }
     ensures whole { OnOk result (AreWhole nl.old.cells → AreWhole nl.new.cells) }
-    ensures full { IsFullAt result nl.new }
-    ensures keeps { KeepsCounters clocks.old clocks.new }
+    ensures keeps { OnOk result (KeepsCounters clocks.old clocks.new) }
     ensures taps { IfOk result (λ nets. AreTaps nl.new.cells clocks.old.rst (width_of nl.old.cells x.0) x.0 taps.now nets) }
 {
     let width = width_at(nl, x);
@@ -139,16 +140,16 @@ fn far_row(
     width: Width,
     reach: u32,
     spare: u32,
-) -> Result<Vec<Link>, NetFault>
+) -> Result<Vec<Link>, AllocError>
     requires belongs { Belongs clocks.old nl.old.cells }
     requires net { IsNet nl.old.cells x.0 width }
-    ensures belongs { Belongs clocks.new nl.new.cells }
-    ensures keeps { KeepsCounters clocks.old clocks.new }
-    ensures adds { AddsMemories nl.old nl.new (18 * rings reach) (rings reach) }
+    requires room { HasRoom nl.old (18 * rings reach) }
+    ensures belongs { OnOk result (Belongs clocks.new nl.new.cells) }
+    ensures keeps { OnOk result (KeepsCounters clocks.old clocks.new) }
+    ensures adds { OnOk result (AddsMemories nl.old nl.new (18 * rings reach) (rings reach)) }
     ensures registers { OnOk result (count_of is_register nl.new.cells + made_of clocks.old ≤ count_of is_register nl.old.cells + made_of clocks.new + min ((reach + 4095) / 4096 - 1) spare) }
     ensures tests { OnOk result (count_of is_test nl.new.cells + made_of clocks.old ≤ count_of is_test nl.old.cells + made_of clocks.new) }
     ensures gained { OnOk result (made_of clocks.new ≤ made_of clocks.old + 2) }
-    ensures full { IsFullAt result nl.new }
     ensures long { IfOk result (λ links. length links.items ≡ rings reach) }
     ensures links { IfOk result (λ links. AreLinks nl.new.cells clocks.old.rst width x.0 reach links.items) }
 {
@@ -166,15 +167,15 @@ fn tap_at(
     width: Width,
     tap: u32,
     kept: bool,
-) -> Result<NetId, NetFault>
+) -> Result<NetId, AllocError>
     requires near { tap < 8 → tap < length nets.now }
     requires far { 8 ≤ tap → tap ≤ 4096 * length links.now }
     requires delays { (x : ℕ) × AreDelays nl.old.cells width x nets.now }
     requires links { 8 ≤ tap → (rst : ℕ) × (x : ℕ) × (reach : ℕ) × AreLinks nl.old.cells rst width x reach links.now × (tap ≤ reach) }
-    ensures adds { Adds nl.old nl.new (if nat_lt 0 tap then 4 else 0) 0 }
-    ensures registers { count_of is_register nl.new.cells ≤ count_of is_register nl.old.cells + (if kept && nat_le 8 tap then 1 else 0) }
-    ensures tests { count_of is_test nl.new.cells ≤ count_of is_test nl.old.cells }
-    ensures full { IsFullAt result nl.new }
+    requires room { HasRoom nl.old (if nat_lt 0 tap then 4 else 0) }
+    ensures adds { OnOk result (Adds nl.old nl.new (if nat_lt 0 tap then 4 else 0) 0) }
+    ensures registers { OnOk result (count_of is_register nl.new.cells ≤ count_of is_register nl.old.cells + (if kept && nat_le 8 tap then 1 else 0)) }
+    ensures tests { OnOk result (count_of is_test nl.new.cells ≤ count_of is_test nl.old.cells) }
     ensures tap { IfOk result (λ y. (rst x reach : ℕ) → AreDelays nl.old.cells width x nets.now → AreLinks nl.old.cells rst width x reach links.now → IsTap nl.new.cells rst width x tap y.0) }
 {
     if tap < 8 {
@@ -193,21 +194,21 @@ pub fn ring_line(
     x: NetId,
     taps: &[u32],
     clocks: &mut Clocks,
-) -> Result<Tapped, NetFault>
+) -> Result<Tapped, AllocError>
     requires belongs { Belongs clocks.old nl.old.cells }
     requires net { IsNet nl.old.cells x.0 (width_of nl.old.cells x.0) }
     requires few { length taps.now < 2 ^ 32 }
-    ensures belongs { Belongs clocks.new nl.new.cells }
-    ensures grows { Grows nl.old nl.new }
-    ensures cells { length nl.new.cells ≤ length nl.old.cells + line_cells taps.now }
-    ensures muls { count_of is_mul nl.new.cells ≡ count_of is_mul nl.old.cells }
-    ensures memories { count_of is_memory nl.new.cells ≤ count_of is_memory nl.old.cells + rings (greatest_of taps.now) }
+    requires room { HasRoom nl.old (line_cells taps.now) }
+    ensures belongs { OnOk result (Belongs clocks.new nl.new.cells) }
+    ensures grows { OnOk result (Grows nl.old nl.new) }
+    ensures cells { OnOk result (length nl.new.cells ≤ length nl.old.cells + line_cells taps.now) }
+    ensures muls { OnOk result (count_of is_mul nl.new.cells ≡ count_of is_mul nl.old.cells) }
+    ensures memories { OnOk result (count_of is_memory nl.new.cells ≤ count_of is_memory nl.old.cells + rings (greatest_of taps.now)) }
     ensures whole { OnOk result (AreWhole nl.old.cells → AreWhole nl.new.cells) }
     ensures registers { OnOk result (count_of is_register nl.new.cells + made_of clocks.old ≤ count_of is_register nl.old.cells + made_of clocks.new + min 7 (greatest_of taps.now)) }
     ensures tests { OnOk result (count_of is_test nl.new.cells + made_of clocks.old ≤ count_of is_test nl.old.cells + made_of clocks.new) }
     ensures gained { OnOk result (made_of clocks.new ≤ made_of clocks.old + 2) }
-    ensures full { IsFullAt result nl.new }
-    ensures keeps { KeepsCounters clocks.old clocks.new }
+    ensures keeps { OnOk result (KeepsCounters clocks.old clocks.new) }
     ensures taps { IfOk result (λ nets. AreTaps nl.new.cells clocks.old.rst (width_of nl.old.cells x.0) x.0 taps.now nets) }
 {
     let width = width_at(nl, x);

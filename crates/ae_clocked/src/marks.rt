@@ -1,24 +1,28 @@
 // Marks of the first clocks of each period, kept in registers.
 
-ghost use Rattle.std.specs.Prelude.{◌<◌, ◌≤◌, ◌^◌, ◌+◌, ◌-◌, ◌%◌, ℕ, length, IfOk, if◌then◌else◌};
+ghost use Rattle.std.specs.Prelude.{◌<◌, ◌≤◌, ◌^◌, ◌+◌, ◌-◌, ◌%◌, ℕ, length, IfOk, OnOk, if◌then◌else◌};
 ghost use Rattle.ae_netlist.specs.Circuit.{IsNet};
+ghost use Rattle.ae_netlist.specs.Room.{HasRoom};
 ghost use Rattle.ae_netlist.specs.Counts.{count_of, is_register};
 ghost use Rattle.ae_netlist.specs.Runs.{InEveryResetRun, InEveryRunFrom};
-ghost use Rattle.ae_clocked.specs.Signals.{Adds, BeginsWith, IsAt, IsFullAt, Turns, is_test};
+ghost use Rattle.ae_gates.specs.Cells.{Adds, is_test};
+ghost use Rattle.ae_clocked.specs.Signals.{BeginsWith, IsAt, Turns};
 ghost use Rattle.ae_clocked.specs.Phases.{IsCounter, MarksPhases};
 
-use crate::gates::{choose, close, constant, delayed, differ, equal, register, width_at};
-use ae_netlist::{NetFault, NetId, Netlist};
+use crate::registers::{close, delayed, register};
+use ae_gates::{choose, constant, differ, equal, width_at};
+use ae_netlist::{NetId, Netlist};
 use ae_word::Width;
+use std::alloc::AllocError;
 
 /// The bit that says whether a net has this word.
-fn at_word(nl: &mut Netlist, r: NetId, width: Width, word: u32) -> Result<NetId, NetFault>
+fn at_word(nl: &mut Netlist, r: NetId, width: Width, word: u32) -> Result<NetId, AllocError>
     requires net { IsNet nl.old.cells r.0 width }
     requires fits { word < 2 ^ width }
-    ensures adds { Adds nl.old nl.new 2 0 }
-    ensures registers { count_of is_register nl.new.cells ≤ count_of is_register nl.old.cells }
-    ensures tests { count_of is_test nl.new.cells ≤ count_of is_test nl.old.cells + 1 }
-    ensures full { IsFullAt result nl.new }
+    requires room { HasRoom nl.old 2 }
+    ensures adds { OnOk result (Adds nl.old nl.new 2 0) }
+    ensures registers { OnOk result (count_of is_register nl.new.cells ≤ count_of is_register nl.old.cells) }
+    ensures tests { OnOk result (count_of is_test nl.new.cells ≤ count_of is_test nl.old.cells + 1) }
     ensures net { IfOk result (λ y. IsNet nl.new.cells y.0 1) }
     ensures words { IfOk result (λ y. InEveryRunFrom (length nl.old.cells) nl.new.cells (λ run. IsAt run y.0 r.0 word)) }
 {
@@ -36,16 +40,16 @@ fn at_phase(
     at: u32,
     offset: u32,
     q: u32,
-) -> Result<NetId, NetFault>
+) -> Result<NetId, AllocError>
     requires counter { (rst : ℕ) × IsCounter nl.old.cells rst (record { period = period; offset = at }) r.0 }
     requires begins { at < period }
     requires low { offset < period }
     requires high { period ≤ 4096 }
     requires within { q < period }
-    ensures adds { Adds nl.old nl.new 2 0 }
-    ensures registers { count_of is_register nl.new.cells ≤ count_of is_register nl.old.cells }
-    ensures tests { count_of is_test nl.new.cells ≤ count_of is_test nl.old.cells + 1 }
-    ensures full { IsFullAt result nl.new }
+    requires room { HasRoom nl.old 2 }
+    ensures adds { OnOk result (Adds nl.old nl.new 2 0) }
+    ensures registers { OnOk result (count_of is_register nl.new.cells ≤ count_of is_register nl.old.cells) }
+    ensures tests { OnOk result (count_of is_test nl.new.cells ≤ count_of is_test nl.old.cells + 1) }
     ensures net { IfOk result (λ y. IsNet nl.new.cells y.0 1) }
     ensures words { IfOk result (λ y. InEveryRunFrom (length nl.old.cells) nl.new.cells (λ run. IsAt run y.0 r.0 ((q + (offset + period - at)) % period))) }
 {
@@ -54,13 +58,13 @@ fn at_phase(
 }
 
 /// A register of one bit that takes `first` in a clock where the reset is 1, and else the word of `x`.
-fn begun(nl: &mut Netlist, rst: NetId, first: bool, x: NetId) -> Result<NetId, NetFault>
+fn begun(nl: &mut Netlist, rst: NetId, first: bool, x: NetId) -> Result<NetId, AllocError>
     requires rst { IsNet nl.old.cells rst.0 1 }
     requires net { IsNet nl.old.cells x.0 1 }
-    ensures adds { Adds nl.old nl.new 3 0 }
-    ensures registers { count_of is_register nl.new.cells ≤ count_of is_register nl.old.cells + 1 }
-    ensures tests { count_of is_test nl.new.cells ≤ count_of is_test nl.old.cells }
-    ensures full { IsFullAt result nl.new }
+    requires room { HasRoom nl.old 3 }
+    ensures adds { OnOk result (Adds nl.old nl.new 3 0) }
+    ensures registers { OnOk result (count_of is_register nl.new.cells ≤ count_of is_register nl.old.cells + 1) }
+    ensures tests { OnOk result (count_of is_test nl.new.cells ≤ count_of is_test nl.old.cells) }
     ensures net { IfOk result (λ y. IsNet nl.new.cells y.0 1) }
     ensures words { IfOk result (λ y. InEveryRunFrom (length nl.old.cells) nl.new.cells (λ run. BeginsWith run y.0 rst.0 (if first then 1 else 0) x.0)) }
 {
@@ -71,14 +75,20 @@ fn begun(nl: &mut Netlist, rst: NetId, first: bool, x: NetId) -> Result<NetId, N
 }
 
 /// A register of one bit that takes `first` in a clock where the reset is 1, and else turns where one of two bits is 1.
-fn turning(nl: &mut Netlist, rst: NetId, first: bool, a: NetId, b: NetId) -> Result<NetId, NetFault>
+fn turning(
+    nl: &mut Netlist,
+    rst: NetId,
+    first: bool,
+    a: NetId,
+    b: NetId,
+) -> Result<NetId, AllocError>
     requires rst { IsNet nl.old.cells rst.0 1 }
     requires left { IsNet nl.old.cells a.0 1 }
     requires right { IsNet nl.old.cells b.0 1 }
-    ensures adds { Adds nl.old nl.new 5 0 }
-    ensures registers { count_of is_register nl.new.cells ≤ count_of is_register nl.old.cells + 1 }
-    ensures tests { count_of is_test nl.new.cells ≤ count_of is_test nl.old.cells }
-    ensures full { IsFullAt result nl.new }
+    requires room { HasRoom nl.old 5 }
+    ensures adds { OnOk result (Adds nl.old nl.new 5 0) }
+    ensures registers { OnOk result (count_of is_register nl.new.cells ≤ count_of is_register nl.old.cells + 1) }
+    ensures tests { OnOk result (count_of is_test nl.new.cells ≤ count_of is_test nl.old.cells) }
     ensures net { IfOk result (λ y. IsNet nl.new.cells y.0 1) }
     ensures words { IfOk result (λ y. InEveryRunFrom (length nl.old.cells) nl.new.cells (λ run. Turns run y.0 rst.0 (if first then 1 else 0) a.0 b.0)) }
 {
@@ -101,17 +111,17 @@ pub fn marked(
     at: u32,
     offset: u32,
     from: u32,
-) -> Result<NetId, NetFault>
+) -> Result<NetId, AllocError>
     requires rst { IsNet nl.old.cells rst.0 1 }
     requires counter { IsCounter nl.old.cells rst.0 (record { period = period; offset = at }) r.0 }
     requires begins { at < period }
     requires low { offset < period }
     requires high { period ≤ 4096 }
     requires within { from ≤ period }
-    ensures adds { Adds nl.old nl.new 9 0 }
-    ensures registers { count_of is_register nl.new.cells ≤ count_of is_register nl.old.cells + 1 }
-    ensures tests { count_of is_test nl.new.cells ≤ count_of is_test nl.old.cells + 2 }
-    ensures full { IsFullAt result nl.new }
+    requires room { HasRoom nl.old 9 }
+    ensures adds { OnOk result (Adds nl.old nl.new 9 0) }
+    ensures registers { OnOk result (count_of is_register nl.new.cells ≤ count_of is_register nl.old.cells + 1) }
+    ensures tests { OnOk result (count_of is_test nl.new.cells ≤ count_of is_test nl.old.cells + 2) }
     ensures net { IfOk result (λ y. IsNet nl.new.cells y.0 1) }
     ensures marks { IfOk result (λ y. InEveryResetRun nl.new.cells rst.0 (λ run start. MarksPhases run start y.0 period offset from)) }
 {

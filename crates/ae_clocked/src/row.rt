@@ -2,8 +2,9 @@
 
 ghost use Rattle.std.specs.Prelude.{◌≡◌, ◌<◌, ◌≤◌, ◌+◌, ◌-◌, ◌*◌, ◌/◌, ℕ, length, min, IfOk, OnOk, if◌then◌else◌};
 ghost use Rattle.ae_netlist.specs.Circuit.{IsNet};
+ghost use Rattle.ae_netlist.specs.Room.{HasRoom};
 ghost use Rattle.ae_netlist.specs.Counts.{count_of, is_register};
-ghost use Rattle.ae_clocked.specs.Signals.{Adds, IsFullAt, is_test};
+ghost use Rattle.ae_gates.specs.Cells.{Adds, is_test};
 ghost use Rattle.ae_clocked.specs.Phases.{Belongs, KeepsCounters, made_of};
 ghost use Rattle.ae_clocked.specs.Delays.{IsTap};
 ghost use Rattle.ae_clocked.specs.Rings.{AddsMemories};
@@ -11,9 +12,9 @@ ghost use Rattle.ae_clocked.specs.Rows.{AreLinks};
 
 use crate::clocks::Clocks;
 use crate::ring::{Ring, make_ring, ring_tap};
-use ae_netlist::{NetFault, NetId, Netlist};
+use ae_netlist::{NetId, Netlist};
 use ae_word::Width;
-use std::alloc::Global;
+use std::alloc::{AllocError, Global};
 
 /// A ring in a row: the net whose words it keeps, and the ring.
 #[derive(Clone, Copy)]
@@ -32,17 +33,17 @@ pub fn make_row(
     width: Width,
     reach: u32,
     spare: u32,
-) -> Result<Vec<Link>, NetFault>
+) -> Result<Vec<Link>, AllocError>
     requires belongs { Belongs clocks.old nl.old.cells }
     requires late { 1 ≤ reach }
     requires net { IsNet nl.old.cells x.0 width }
-    ensures belongs { Belongs clocks.new nl.new.cells }
-    ensures keeps { KeepsCounters clocks.old clocks.new }
-    ensures adds { AddsMemories nl.old nl.new (18 * ((reach + 4095) / 4096)) ((reach + 4095) / 4096) }
+    requires room { HasRoom nl.old (18 * ((reach + 4095) / 4096)) }
+    ensures belongs { OnOk result (Belongs clocks.new nl.new.cells) }
+    ensures keeps { OnOk result (KeepsCounters clocks.old clocks.new) }
+    ensures adds { OnOk result (AddsMemories nl.old nl.new (18 * ((reach + 4095) / 4096)) ((reach + 4095) / 4096)) }
     ensures registers { OnOk result (count_of is_register nl.new.cells + made_of clocks.old ≤ count_of is_register nl.old.cells + made_of clocks.new + min ((reach + 4095) / 4096 - 1) spare) }
     ensures tests { OnOk result (count_of is_test nl.new.cells + made_of clocks.old ≤ count_of is_test nl.old.cells + made_of clocks.new) }
     ensures gained { OnOk result (made_of clocks.new ≤ made_of clocks.old + 2) }
-    ensures full { IsFullAt result nl.new }
     ensures long { IfOk result (λ links. length links.items ≡ (reach + 4095) / 4096) }
     ensures links { IfOk result (λ links. AreLinks nl.new.cells clocks.old.rst width x.0 reach links.items) }
 {
@@ -66,18 +67,19 @@ pub fn far_tap(
     width: Width,
     tap: u32,
     kept: bool,
-) -> Result<NetId, NetFault>
+) -> Result<NetId, AllocError>
     requires late { 1 ≤ tap }
     requires long { tap ≤ 4096 * length links.now }
     requires links { (rst : ℕ) × (x : ℕ) × (reach : ℕ) × AreLinks nl.old.cells rst width x reach links.now × (tap ≤ reach) }
-    ensures adds { Adds nl.old nl.new 4 0 }
-    ensures registers { count_of is_register nl.new.cells ≤ count_of is_register nl.old.cells + (if kept then 1 else 0) }
-    ensures tests { count_of is_test nl.new.cells ≤ count_of is_test nl.old.cells }
-    ensures full { IsFullAt result nl.new }
+    requires room { HasRoom nl.old 4 }
+    ensures adds { OnOk result (Adds nl.old nl.new 4 0) }
+    ensures registers { OnOk result (count_of is_register nl.new.cells ≤ count_of is_register nl.old.cells + (if kept then 1 else 0)) }
+    ensures tests { OnOk result (count_of is_test nl.new.cells ≤ count_of is_test nl.old.cells) }
     ensures net { IfOk result (λ y. IsNet nl.new.cells y.0 width) }
     ensures tap { IfOk result (λ y. (rst x reach : ℕ) → AreLinks nl.old.cells rst width x reach links.now → IsTap nl.new.cells rst width x tap y.0) }
 {
     let place = (tap - 1) / 4096;
     let link = links[place as usize];
-    ring_tap(nl, link.ring, width, tap - 4096 * place, kept)
+    let y = ring_tap(nl, link.ring, width, tap - 4096 * place, kept)?;
+    Ok(y)
 }

@@ -1,5 +1,5 @@
 -- A source, and a choice by phase between an earlier net and a source.
-use Rattle.std.proofs.Common.{ℕ, ◌≡◌, ◌+◌, ◌%◌, ◌^◌, ◌<◌, ◌≤◌, ◌==◌, if◌then◌else◌, Bool, true, false, nat_lt, List, ◌∷◌, ◌++◌, [], length, take, Some, slice_get, Result, Ok, Err, IfOk, arith, refl, sym, ap, ◌∙◌}
+use Rattle.std.proofs.Common.{ℕ, ◌≡◌, ◌+◌, ◌%◌, ◌^◌, ◌<◌, ◌≤◌, ◌==◌, if◌then◌else◌, Bool, true, false, nat_lt, List, ◌∷◌, ◌++◌, [], length, take, Some, slice_get, arith, refl, sym, ap, ◌∙◌}
 use Rattle.std.proofs.Math.Nat.{mod-eq_of_lt}
 use Rattle.std.proofs.lemmas.List.Sums.{fold-append}
 use Rattle.std.proofs.lemmas.List.{take_more, take_all, length-take-le}
@@ -7,12 +7,11 @@ use Rattle.std.proofs.lemmas.Option.{get_or_from_slice_get}
 use Rattle.ae_word.specs.declared.op.WordOp.TheVariants.{Cast, Lt, Mux}
 use Rattle.ae_netlist.specs.declared.cell.NetId.{NetId}
 use Rattle.ae_netlist.specs.declared.cell.SizedCell.{SizedCell}
-use Rattle.ae_netlist.specs.declared.netlist.NetFault.{NetFault}
 use Rattle.ae_netlist.specs.Circuit.{IsNet, Extends}
 use Rattle.ae_netlist.specs.Runs.{Clock, word_at, InEveryResetRun, InEveryRunFrom}
 use Rattle.ae_netlist.proofs.Growing.{extends_trans, net_later}
 use Rattle.ae_netlist.proofs.Carried.{carries_extends, carries_trans}
-use Rattle.ae_clocked.specs.Signals.{IsConstant, IsResult}
+use Rattle.ae_gates.specs.Cells.{IsConstant, IsResult}
 use Rattle.ae_clocked.specs.Phases.{IsMark}
 use Rattle.ae_clocked.proofs.Belonging.{counter_grows}
 use Rattle.ae_moves.specs.declared.trip.Choice.{Choice}
@@ -66,24 +65,23 @@ constant_source cells from rst w ins k y net h =
 
 -- ---- a comparison of the counter is a mark
 
-pub compared_marks : (cells : List SizedCell) (rst v limit from fk fe : ℕ) (phase k : NetId) (r : Result NetId NetFault)
+pub compared_marks : (cells : List SizedCell) (rst v limit from fk fe : ℕ) (phase k : NetId) (y : NetId)
     → InEveryRunFrom fk cells (λ run. IsConstant run k.0 from)
-    → IfOk r (λ y. InEveryRunFrom fe cells (λ run. IsResult run y.0 Lt v (phase ∷ k ∷ phase ∷ [])))
-    → IfOk r (λ y. InEveryResetRun cells rst (λ run start. IsMarkTo limit run start y.0 phase.0 from))
-compared_marks cells rst v limit from fk fe phase k (Ok y) ck ce = λ all e run r start reset c l small.
+    → InEveryRunFrom fe cells (λ run. IsResult run y.0 Lt v (phase ∷ k ∷ phase ∷ []))
+    → InEveryResetRun cells rst (λ run start. IsMarkTo limit run start y.0 phase.0 from)
+compared_marks cells rst v limit from fk fe phase k y ck ce = λ all e run r start reset c l small.
     let b : word_at run (start + c) k.0 ≡ from = ck all (carries_extends fk e) run r (start + c) l in
     let h : word_at run (start + c) y.0 ≡ (if nat_lt (word_at run (start + c) phase.0) (word_at run (start + c) k.0) then 1 else 0) = ce all
     (carries_extends fe e) run r (start + c) l in
     rw (← b) h
-compared_marks cells rst v limit from fk fe phase k (Err x) ck ce = ce
 
 -- so is one of its low bits, where they show the phase
-pub low_marks : (cells : List SizedCell) (rst v w limit from fk fs fe : ℕ) (phase shown k : NetId) (r : Result NetId NetFault) → limit ≤ 2 ^ v
+pub low_marks : (cells : List SizedCell) (rst v w limit from fk fs fe : ℕ) (phase shown k : NetId) (y : NetId) → limit ≤ 2 ^ v
     → InEveryRunFrom fk cells (λ run. IsConstant run k.0 from)
     → InEveryRunFrom fs cells (λ run. IsResult run shown.0 (Cast v) w (phase ∷ phase ∷ phase ∷ []))
-    → IfOk r (λ y. InEveryRunFrom fe cells (λ run. IsResult run y.0 Lt v (shown ∷ k ∷ shown ∷ [])))
-    → IfOk r (λ y. InEveryResetRun cells rst (λ run start. IsMarkTo limit run start y.0 phase.0 from))
-low_marks cells rst v w limit from fk fs fe phase shown k (Ok y) enough ck cs ce = λ all e run r start reset c l small.
+    → InEveryRunFrom fe cells (λ run. IsResult run y.0 Lt v (shown ∷ k ∷ shown ∷ []))
+    → InEveryResetRun cells rst (λ run start. IsMarkTo limit run start y.0 phase.0 from)
+low_marks cells rst v w limit from fk fs fe phase shown k y enough ck cs ce = λ all e run r start reset c l small.
     let b : word_at run (start + c) k.0 ≡ from = ck all (carries_extends fk e) run r (start + c) l in
     let d : word_at run (start + c) shown.0 ≡ word_at run (start + c) phase.0 % 2 ^ v = cs all (carries_extends fs e) run r (start + c) l in
     let fits : word_at run (start + c) phase.0 < 2 ^ v = omega arith in
@@ -91,13 +89,11 @@ low_marks cells rst v w limit from fk fs fe phase shown k (Ok y) enough ck cs ce
     let h : word_at run (start + c) y.0 ≡ (if nat_lt (word_at run (start + c) shown.0) (word_at run (start + c) k.0) then 1 else 0) = ce all
     (carries_extends fe e) run r (start + c) l in
     rw (← b, ← same) h
-low_marks cells rst v w limit from fk fs fe phase shown k (Err x) enough ck cs ce = ce
 
-pub marked_marks : (cells : List SizedCell) (rst limit from : ℕ) (phase : NetId) (r : Result NetId NetFault)
-    → IfOk r (λ y. InEveryResetRun cells rst (λ run start. IsMark run start y.0 phase.0 from))
-    → IfOk r (λ y. InEveryResetRun cells rst (λ run start. IsMarkTo limit run start y.0 phase.0 from))
-marked_marks cells rst limit from phase (Ok y) h = λ all e run r start reset c l small. h all e run r start reset c l
-marked_marks cells rst limit from phase (Err x) h = h
+pub marked_marks : (cells : List SizedCell) (rst limit from : ℕ) (phase : NetId) (y : NetId)
+    → InEveryResetRun cells rst (λ run start. IsMark run start y.0 phase.0 from)
+    → InEveryResetRun cells rst (λ run start. IsMarkTo limit run start y.0 phase.0 from)
+marked_marks cells rst limit from phase y h = λ all e run r start reset c l small. h all e run r start reset c l
 
 -- ---- a column of one choice, and of one step more
 
@@ -141,21 +137,19 @@ from_grows from P g h = λ all k run r. h all (carries_trans (carries_extends fr
 
 -- ---- with an answer that may be want of memory
 
-pub constant_sources : (cells : List SizedCell) (from rst w : ℕ) (ins : List NetId) (k : ℕ) (r : Result NetId NetFault) → IfOk r (λ y. IsNet cells y.0 w)
-    → IfOk r (λ y. InEveryRunFrom from cells (λ run. IsConstant run y.0 k)) → IfOk r (λ y. IsSource cells rst w ins (Constant k) y.0)
-constant_sources cells from rst w ins k (Ok y) net h = constant_source cells from rst w ins k y.0 net h
-constant_sources cells from rst w ins k (Err e) net h = h
+pub constant_sources : (cells : List SizedCell) (from rst w : ℕ) (ins : List NetId) (k : ℕ) (y : NetId) → IsNet cells y.0 w
+    → InEveryRunFrom from cells (λ run. IsConstant run y.0 k) → IsSource cells rst w ins (Constant k) y.0
+constant_sources cells from rst w ins k y net h = constant_source cells from rst w ins k y.0 net h
 
 pub columns_more : (a b d : List SizedCell) (rst w phase limit : ℕ) (ins : List NetId) (step : Step) (before early s : NetId) (fy : ℕ)
-    (r : Result NetId NetFault)
-    → Extends a d → Extends b d → IsSource b rst w ins step.take s.0 → IfOk r (λ y. IsNet d y.0 w)
+    (y : NetId)
+    → Extends a d → Extends b d → IsSource b rst w ins step.take s.0 → IsNet d y.0 w
     → InEveryResetRun d rst (λ run start. IsMarkTo limit run start early.0 phase step.from)
-    → IfOk r (λ y. InEveryRunFrom fy d (λ run. IsResult run y.0 Mux w (early ∷ before ∷ s ∷ [])))
-    → IfOk r (λ y. (choice : ℕ → Choice) → IsColumn a rst w phase limit ins choice before.0
-    → IsColumn d rst w phase limit ins (λ p. later p (choice p) step) y.0)
-columns_more a b d rst w phase limit ins step before early s fy (Ok y) ga gb hs net ce cy =
+    → InEveryRunFrom fy d (λ run. IsResult run y.0 Mux w (early ∷ before ∷ s ∷ []))
+    → (choice : ℕ → Choice) → IsColumn a rst w phase limit ins choice before.0
+    → IsColumn d rst w phase limit ins (λ p. later p (choice p) step) y.0
+columns_more a b d rst w phase limit ins step before early s fy y ga gb hs net ce cy =
     λ choice hc. column_more a b d rst w phase limit ins choice step before early s y fy ga gb hc hs net ce cy
-columns_more a b d rst w phase limit ins step before early s fy (Err e) ga gb hs net ce cy = net
 
 pub column_same : (cells : List SizedCell) (rst w phase limit : ℕ) (ins : List NetId) (f g : ℕ → Choice) (y : ℕ) → ((p : ℕ) → g p ≡ f p)
     → IsColumn cells rst w phase limit ins f y → IsColumn cells rst w phase limit ins g y
@@ -205,37 +199,34 @@ whole_column cells rst w phase limit ins steps i y l h =
 
 -- ---- by a bit that marks the phases before a step
 
-pub columns_by : (a b d : List SizedCell) (rst w : ℕ) (ins : List NetId) (step : Step) (before early s : NetId) (fy : ℕ) (r : Result NetId NetFault)
-    → Extends a d → Extends b d → IsSource b rst w ins step.take s.0 → IfOk r (λ y. IsNet d y.0 w)
-    → IfOk r (λ y. InEveryRunFrom fy d (λ run. IsResult run y.0 Mux w (early ∷ before ∷ s ∷ [])))
-    → IfOk r (λ y. (phase limit : ℕ) (choice : ℕ → Choice) → InEveryResetRun a rst (λ run start. IsMarkTo limit run start early.0 phase step.from)
-    → IsColumn a rst w phase limit ins choice before.0 → IsColumn d rst w phase limit ins (λ p. later p (choice p) step) y.0)
-columns_by a b d rst w ins step before early s fy (Ok y) ga gb hs net cy = λ phase limit choice marks hc.
+pub columns_by : (a b d : List SizedCell) (rst w : ℕ) (ins : List NetId) (step : Step) (before early s : NetId) (fy : ℕ) (y : NetId)
+    → Extends a d → Extends b d → IsSource b rst w ins step.take s.0 → IsNet d y.0 w
+    → InEveryRunFrom fy d (λ run. IsResult run y.0 Mux w (early ∷ before ∷ s ∷ []))
+    → (phase limit : ℕ) (choice : ℕ → Choice) → InEveryResetRun a rst (λ run start. IsMarkTo limit run start early.0 phase step.from)
+    → IsColumn a rst w phase limit ins choice before.0 → IsColumn d rst w phase limit ins (λ p. later p (choice p) step) y.0
+columns_by a b d rst w ins step before early s fy y ga gb hs net cy = λ phase limit choice marks hc.
     column_more a b d rst w phase limit ins choice step before early s y fy ga gb hc hs net
     (mark_grows a d rst limit early.0 phase step.from ga marks) cy
-columns_by a b d rst w ins step before early s fy (Err e) ga gb hs net cy = net
 
-pub columns_then : (a b d : List SizedCell) (rst w phase limit : ℕ) (ins : List NetId) (step : Step) (before early : NetId) (r : Result NetId NetFault)
+pub columns_then : (a b d : List SizedCell) (rst w phase limit : ℕ) (ins : List NetId) (step : Step) (before early : NetId) (y : NetId)
     → Extends a b → InEveryResetRun b rst (λ run start. IsMarkTo limit run start early.0 phase step.from)
-    → IfOk r (λ y. (phase limit : ℕ) (choice : ℕ → Choice) → InEveryResetRun b rst (λ run start. IsMarkTo limit run start early.0 phase step.from)
+    → ((phase limit : ℕ) (choice : ℕ → Choice) → InEveryResetRun b rst (λ run start. IsMarkTo limit run start early.0 phase step.from)
     → IsColumn b rst w phase limit ins choice before.0 → IsColumn d rst w phase limit ins (λ p. later p (choice p) step) y.0)
-    → IfOk r (λ y. (choice : ℕ → Choice) → IsColumn a rst w phase limit ins choice before.0
-    → IsColumn d rst w phase limit ins (λ p. later p (choice p) step) y.0)
-columns_then a b d rst w phase limit ins step before early (Ok y) g marks h = λ choice hc.
+    → (choice : ℕ → Choice) → IsColumn a rst w phase limit ins choice before.0
+    → IsColumn d rst w phase limit ins (λ p. later p (choice p) step) y.0
+columns_then a b d rst w phase limit ins step before early y g marks h = λ choice hc.
     h phase limit choice marks (column_grows a b rst w phase limit ins choice before.0 g hc)
-columns_then a b d rst w phase limit ins step before early (Err e) g marks h = h
 
 -- two steps are one of each kind
 pub columns_two : (a b d : List SizedCell) (rst w phase limit : ℕ) (ins : List NetId) (steps : List Step) (one two : Step) (before early : NetId)
-    (r : Result NetId NetFault) → length steps ≡ 2 → slice_get steps 0 ≡ Some one → slice_get steps 1 ≡ Some two → Extends a b
+    (y : NetId) → length steps ≡ 2 → slice_get steps 0 ≡ Some one → slice_get steps 1 ≡ Some two → Extends a b
     → IsSource a rst w ins one.take before.0 → InEveryResetRun b rst (λ run start. IsMarkTo limit run start early.0 phase two.from)
-    → IfOk r (λ y. (phase limit : ℕ) (choice : ℕ → Choice) → InEveryResetRun b rst (λ run start. IsMarkTo limit run start early.0 phase two.from)
+    → ((phase limit : ℕ) (choice : ℕ → Choice) → InEveryResetRun b rst (λ run start. IsMarkTo limit run start early.0 phase two.from)
     → IsColumn b rst w phase limit ins choice before.0 → IsColumn d rst w phase limit ins (λ p. later p (choice p) two) y.0)
-    → IfOk r (λ y. IsColumn d rst w phase limit ins (λ p. choice_in p steps) y.0)
-columns_two a b d rst w phase limit ins steps one two before early (Ok y) count first second g hs marks h =
+    → IsColumn d rst w phase limit ins (λ p. choice_in p steps) y.0
+columns_two a b d rst w phase limit ins steps one two before early y count first second g hs marks h =
     let begun = column_grows a b rst w phase limit ins (λ p. choice_in p (take 1 steps)) before.0 g
     (first_column a rst w phase limit ins steps one before.0 first hs) in
     whole_column d rst w phase limit ins steps 2 y.0 (omega (arith, count))
     (next_column d rst w phase limit ins steps 1 two y.0 (omega arith) (omega (arith, count)) second
     (h phase limit (λ p. choice_in p (take 1 steps)) marks begun))
-columns_two a b d rst w phase limit ins steps one two before early (Err e) count first second g hs marks h = h

@@ -1,5 +1,5 @@
 -- A register that is written in one phase of a counter holds a word for a period.
-use Rattle.std.proofs.Common.{ℕ, ◌≡◌, ◌+◌, ◌<◌, List, ◌∷◌, ◌++◌, [], length, get_or, Option, Some, None, slice_get, Result, Ok, Err, IfOk, inl, inr, arith, refl, ap, ◌∙◌}
+use Rattle.std.proofs.Common.{ℕ, ◌≡◌, ◌+◌, ◌<◌, List, ◌∷◌, ◌++◌, [], length, get_or, Option, Some, None, slice_get, inl, inr, arith, refl, ap, ◌∙◌}
 use Rattle.std.proofs.lemmas.Bool.{cases_eq}
 use Rattle.std.proofs.lemmas.List.{length_push}
 use Rattle.std.proofs.lemmas.Option.{slice_get-get_or, get_or_from_slice_get}
@@ -7,22 +7,20 @@ use Rattle.ae_netlist.specs.declared.cell.SizedCell.{SizedCell}
 use Rattle.ae_netlist.proofs.Gets.{get_left, get_pushed}
 use Rattle.ae_columns.specs.Columns.{net_of}
 use Rattle.ae_netlist.specs.declared.cell.NetId.{NetId}
-use Rattle.ae_netlist.specs.declared.netlist.NetFault.{NetFault}
 use Rattle.ae_netlist.specs.Circuit.{Circuit, Extends, IsNet}
 use Rattle.ae_netlist.specs.Runs.{InEveryRunFrom}
 use Rattle.ae_netlist.proofs.Growing.{extends_trans, net_later}
 use Rattle.ae_netlist.proofs.Carried.{carries_extends}
-use Rattle.ae_clocked.specs.Signals.{Grows}
+use Rattle.ae_gates.specs.Cells.{Grows}
 use Rattle.ae_clocked.specs.Phases.{IsCounter}
 use Rattle.ae_columns.specs.Held.{AreKept, IsHeld, IsKept, Keeps}
 use Rattle.ae_columns.proofs.HeldLaw.{held}
 
-pub held_made : (old new : Circuit) (r : Result NetId NetFault) (x counter : NetId) (w period offset q : ℕ) → offset < period → Grows old new
-    → IfOk r (λ y. IsNet new.cells y.0 w)
-    → IfOk r (λ y. InEveryRunFrom (length old.cells) new.cells (λ run. IsKept run y.0 counter.0 q x.0))
-    → IfOk r (λ y. (rst : ℕ) → IsCounter old.cells rst (record { period = period; offset = offset }) counter.0 → IsHeld new.cells rst w period offset q x.0 y.0)
-held_made old new (Err e) x counter w period offset q less g net words = tt
-held_made old new (Ok y) x counter w period offset q less g net words = λ rst counts. record {
+pub held_made : (old new : Circuit) (y : NetId) (x counter : NetId) (w period offset q : ℕ) → offset < period → Grows old new
+    → IsNet new.cells y.0 w
+    → InEveryRunFrom (length old.cells) new.cells (λ run. IsKept run y.0 counter.0 q x.0)
+    → (rst : ℕ) → IsCounter old.cells rst (record { period = period; offset = offset }) counter.0 → IsHeld new.cells rst w period offset q x.0 y.0
+held_made old new y x counter w period offset q less g net words = λ rst counts. record {
   net = net;
   words = λ all e run is start reset.
       held run start y.0 x.0 counter.0 period offset q less (words all (carries_extends _ e) run is)

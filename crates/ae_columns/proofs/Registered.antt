@@ -1,15 +1,15 @@
 -- A column that is chosen a clock early and then put in a register.
-use Rattle.std.proofs.Common.{ℕ, zero, suc, ◌≡◌, ◌+◌, ◌-◌, ◌*◌, ◌%◌, ◌<◌, ◌≤◌, ◌==◌, if◌then◌else◌, List, ◌∷◌, [], length, Result, Ok, Err, IfOk, arith, refl, sym, ap, ◌∙◌}
+use Rattle.std.proofs.Common.{ℕ, zero, suc, ◌≡◌, ◌+◌, ◌-◌, ◌*◌, ◌%◌, ◌<◌, ◌≤◌, ◌==◌, if◌then◌else◌, List, ◌∷◌, [], length, arith, refl, sym, ap, ◌∙◌}
 use Rattle.std.proofs.Math.Nat.{add-mod, mod-mod, add-mod_right, mod-eq_of_lt}
 use Rattle.ae_word.specs.declared.op.WordOp.TheVariants.{Mux}
 use Rattle.ae_netlist.specs.declared.cell.NetId.{NetId}
 use Rattle.ae_netlist.specs.declared.cell.SizedCell.{SizedCell}
-use Rattle.ae_netlist.specs.declared.netlist.NetFault.{NetFault}
 use Rattle.ae_netlist.specs.Circuit.{IsNet, Extends}
 use Rattle.ae_netlist.specs.Runs.{Clock, word_at, IsRun, IsReset, InEveryRunFrom}
 use Rattle.ae_netlist.proofs.Growing.{extends_trans}
 use Rattle.ae_netlist.proofs.Carried.{carries_extends}
-use Rattle.ae_clocked.specs.Signals.{IsConstant, IsNextOf, IsResult}
+use Rattle.ae_gates.specs.Cells.{IsConstant, IsResult}
+use Rattle.ae_clocked.specs.Signals.{IsNextOf}
 use Rattle.ae_clocked.specs.Phases.{phase_of, IsCounter}
 use Rattle.ae_moves.specs.declared.trip.Source.{Source}
 use Rattle.ae_moves.specs.declared.trip.Source.TheVariants.{Place, Fixed}
@@ -24,11 +24,11 @@ use Rattle.ae_columns.specs.Laws.{sourced}
 use Rattle.ae_columns.proofs.TripLaw.{phase_in_block}
 
 -- a register alone, where the word of the first clock is not asked
-pub delayed_column : (a b : List SizedCell) (rst w phase limit first q age f : ℕ) (ins : List NetId) (choice : ℕ → Choice) (x : ℕ) (r : Result NetId NetFault)
+pub delayed_column : (a b : List SizedCell) (rst w phase limit first q age f : ℕ) (ins : List NetId) (choice : ℕ → Choice) (x : ℕ) (y : NetId)
     → Extends a b → choice first ≡ Delayed q age
-    → IsColumn a rst w phase limit ins choice x → IfOk r (λ y. IsNet b y.0 w) → IfOk r (λ y. InEveryRunFrom f b (λ run. IsNextOf run y.0 x))
-    → IfOk r (λ y. IsEarlyColumn b rst w phase limit first ins choice y.0)
-delayed_column a b rst w phase limit first q age f ins choice x (Ok y) g late h net next = record {
+    → IsColumn a rst w phase limit ins choice x → IsNet b y.0 w → InEveryRunFrom f b (λ run. IsNextOf run y.0 x)
+    → IsEarlyColumn b rst w phase limit first ins choice y.0
+delayed_column a b rst w phase limit first q age f ins choice x y g late h net next = record {
   net = net;
   words = λ all e run r start reset c small le l.
       let m : start + c + 1 < length run = omega arith in
@@ -37,15 +37,14 @@ delayed_column a b rst w phase limit first q age f ins choice x (Ok y) g late h 
       ap (λ t. word_at run t y.0) at ∙ step ∙ h.words all (extends_trans g e) run r start reset c small le (omega arith);
   begins = λ all e run r start reset v chosen l. cc;
 }
-delayed_column a b rst w phase limit first q age f ins choice x (Err e) g late h net next = net
 
 -- a register that is set in reset, where the word of the first clock is fixed
 pub reset_column : (a b : List SizedCell) (rst w phase limit first v fk fm fy : ℕ) (ins : List NetId) (choice : ℕ → Choice) (k m reset_net : NetId) (x : NetId)
-    (r : Result NetId NetFault) → reset_net.0 ≡ rst → Extends a b → choice first ≡ Constant v
-    → IsColumn a rst w phase limit ins choice x.0 → IfOk r (λ y. IsNet b y.0 w)
+    (y : NetId) → reset_net.0 ≡ rst → Extends a b → choice first ≡ Constant v
+    → IsColumn a rst w phase limit ins choice x.0 → IsNet b y.0 w
     → InEveryRunFrom fk b (λ run. IsConstant run k.0 v) → InEveryRunFrom fm b (λ run. IsResult run m.0 Mux w (reset_net ∷ k ∷ x ∷ []))
-    → IfOk r (λ y. InEveryRunFrom fy b (λ run. IsNextOf run y.0 m.0)) → IfOk r (λ y. IsEarlyColumn b rst w phase limit first ins choice y.0)
-reset_column a b rst w phase limit first v fk fm fy ins choice k m reset_net x (Ok y) same g fixed h net ck cm next = record {
+    → InEveryRunFrom fy b (λ run. IsNextOf run y.0 m.0) → IsEarlyColumn b rst w phase limit first ins choice y.0
+reset_column a b rst w phase limit first v fk fm fy ins choice k m reset_net x y same g fixed h net ck cm next = record {
   net = net;
   words = λ all e run r start reset c small le l.
       let l1 : start + c + 1 < length run = omega arith in
@@ -74,33 +73,29 @@ reset_column a b rst w phase limit first v fk fm fy ins choice k m reset_net x (
       let is : v ≡ u = cc in
       ap (λ n. word_at run n y.0) at ∙ step ∙ here ∙ word ∙ is;
 }
-reset_column a b rst w phase limit first v fk fm fy ins choice k m reset_net x (Err e) same g fixed h net ck cm next = net
 
-pub delayed_columns : (a b : List SizedCell) (rst w q age f : ℕ) (x : ℕ) (r : Result NetId NetFault) → Extends a b → IfOk r (λ y. IsNet b y.0 w)
-    → IfOk r (λ y. InEveryRunFrom f b (λ run. IsNextOf run y.0 x))
-    → IfOk r (λ y. (phase limit p : ℕ) (ins : List NetId) (choice : ℕ → Choice) → choice p ≡ Delayed q age → IsColumn a rst w phase limit ins choice x
-    → IsEarlyColumn b rst w phase limit p ins choice y.0)
-delayed_columns a b rst w q age f x (Ok y) g net next =
-    λ phase limit p ins choice late h. delayed_column a b rst w phase limit p q age f ins choice x (Ok y) g late h net next
-delayed_columns a b rst w q age f x (Err e) g net next = net
+pub delayed_columns : (a b : List SizedCell) (rst w q age f : ℕ) (x : ℕ) (y : NetId) → Extends a b → IsNet b y.0 w
+    → InEveryRunFrom f b (λ run. IsNextOf run y.0 x)
+    → (phase limit p : ℕ) (ins : List NetId) (choice : ℕ → Choice) → choice p ≡ Delayed q age → IsColumn a rst w phase limit ins choice x
+    → IsEarlyColumn b rst w phase limit p ins choice y.0
+delayed_columns a b rst w q age f x y g net next =
+    λ phase limit p ins choice late h. delayed_column a b rst w phase limit p q age f ins choice x y g late h net next
 
-pub reset_columns : (a b : List SizedCell) (rst w v fk fm fy : ℕ) (k m reset_net x : NetId) (r : Result NetId NetFault) → reset_net.0 ≡ rst → Extends a b
-    → IfOk r (λ y. IsNet b y.0 w)
+pub reset_columns : (a b : List SizedCell) (rst w v fk fm fy : ℕ) (k m reset_net x : NetId) (y : NetId) → reset_net.0 ≡ rst → Extends a b
+    → IsNet b y.0 w
     → InEveryRunFrom fk b (λ run. IsConstant run k.0 v) → InEveryRunFrom fm b (λ run. IsResult run m.0 Mux w (reset_net ∷ k ∷ x ∷ []))
-    → IfOk r (λ y. InEveryRunFrom fy b (λ run. IsNextOf run y.0 m.0))
-    → IfOk r (λ y. (phase limit p : ℕ) (ins : List NetId) (choice : ℕ → Choice) → choice p ≡ Constant v → IsColumn a rst w phase limit ins choice x.0
-    → IsEarlyColumn b rst w phase limit p ins choice y.0)
-reset_columns a b rst w v fk fm fy k m reset_net x (Ok y) same g net ck cm next =
-    λ phase limit p ins choice fixed h. reset_column a b rst w phase limit p v fk fm fy ins choice k m reset_net x (Ok y) same g fixed h net ck cm next
-reset_columns a b rst w v fk fm fy k m reset_net x (Err e) same g net ck cm next = net
+    → InEveryRunFrom fy b (λ run. IsNextOf run y.0 m.0)
+    → (phase limit p : ℕ) (ins : List NetId) (choice : ℕ → Choice) → choice p ≡ Constant v → IsColumn a rst w phase limit ins choice x.0
+    → IsEarlyColumn b rst w phase limit p ins choice y.0
+reset_columns a b rst w v fk fm fy k m reset_net x y same g net ck cm next =
+    λ phase limit p ins choice fixed h. reset_column a b rst w phase limit p v fk fm fy ins choice k m reset_net x y same g fixed h net ck cm next
 
 -- what is so of every column is so of this one
-pub early_of : (a b : List SizedCell) (rst w phase limit p : ℕ) (ins : List NetId) (choice : ℕ → Choice) (x : ℕ) (r : Result NetId NetFault) (first : Choice)
+pub early_of : (a b : List SizedCell) (rst w phase limit p : ℕ) (ins : List NetId) (choice : ℕ → Choice) (x : ℕ) (y : NetId) (first : Choice)
     → choice p ≡ first → IsColumn a rst w phase limit ins choice x
-    → IfOk r (λ y. (phase limit p : ℕ) (ins : List NetId) (choice : ℕ → Choice) → choice p ≡ first → IsColumn a rst w phase limit ins choice x
-    → IsEarlyColumn b rst w phase limit p ins choice y.0) → IfOk r (λ y. IsEarlyColumn b rst w phase limit p ins choice y.0)
-early_of a b rst w phase limit p ins choice x (Ok y) first is h all = all phase limit p ins choice is h
-early_of a b rst w phase limit p ins choice x (Err e) first is h all = all
+    → ((phase limit p : ℕ) (ins : List NetId) (choice : ℕ → Choice) → choice p ≡ first → IsColumn a rst w phase limit ins choice x
+    → IsEarlyColumn b rst w phase limit p ins choice y.0) → IsEarlyColumn b rst w phase limit p ins choice y.0
+early_of a b rst w phase limit p ins choice x y first is h all = all phase limit p ins choice is h
 
 -- ---- a trip of a column that is chosen early
 

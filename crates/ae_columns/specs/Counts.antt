@@ -2,7 +2,7 @@
 use Rattle.std.specs.Prelude.{ℕ, ◌+◌, ◌-◌, ◌≤◌, Bool, if◌then◌else◌, List, length, sum_by}
 use Rattle.ae_netlist.specs.Circuit.{Circuit}
 use Rattle.ae_netlist.specs.Counts.{count_of, is_register}
-use Rattle.ae_clocked.specs.Signals.{is_test}
+use Rattle.ae_gates.specs.Cells.{is_test}
 use Rattle.ae_columns.specs.declared.steps.Step.{Step}
 
 -- registers and comparisons have risen by at most what a number of things made beside them has, and so many more

@@ -2,8 +2,9 @@
 
 ghost use Rattle.std.specs.Prelude.{◌≡◌, ◌<◌, ◌≤◌, ◌+◌, ◌-◌, ◌*◌, ◌%◌, ◌^◌, ℕ, length, map, is_some, if◌then◌else◌, IfOk, OnOk, Some, slice_get};
 ghost use Rattle.ae_netlist.specs.Circuit.{IsNet, width_of};
+ghost use Rattle.ae_netlist.specs.Room.{HasRoom};
 ghost use Rattle.ae_clocked.specs.Phases.{Belongs, KeepsCounters, made_of};
-ghost use Rattle.ae_clocked.specs.Signals.{Adds, IsFullAt};
+ghost use Rattle.ae_gates.specs.Cells.{Adds};
 ghost use Rattle.ae_moves.specs.declared.trip.Trip.{Trip as Way};
 ghost use Rattle.ae_columns.specs.Columns.{net_of};
 ghost use Rattle.ae_columns.specs.Counts.{Counted};
@@ -12,9 +13,10 @@ ghost use Rattle.ae_columns.specs.Plans.{IsIn};
 
 use crate::holding::hold;
 use crate::phases::offset;
-use ae_clocked::{Clocks, width_at};
+use ae_clocked::Clocks;
+use ae_gates::width_at;
 use ae_moves::{Source, Trip};
-use ae_netlist::{NetFault, NetId, Netlist};
+use ae_netlist::{NetId, Netlist};
 use std::alloc::{AllocError, Global};
 
 /// A register that takes the word of a net in one clock of each block, and keeps it for a period. It follows the counter
@@ -27,16 +29,16 @@ fn held_net(
     period: u32,
     d: u32,
     arrival: u32,
-) -> Result<NetId, NetFault>
+) -> Result<NetId, AllocError>
     requires belongs { Belongs clocks.old nl.old.cells }
     requires net { IsNet nl.old.cells x.0 (width_of nl.old.cells x.0) }
     requires lasting { 1 ≤ period }
     requires limit { period ≤ 4096 }
-    ensures belongs { Belongs clocks.new nl.new.cells }
-    ensures keeps { KeepsCounters clocks.old clocks.new }
-    ensures adds { Adds nl.old nl.new 16 0 }
+    requires room { HasRoom nl.old 16 }
+    ensures belongs { OnOk result (Belongs clocks.new nl.new.cells) }
+    ensures keeps { OnOk result (KeepsCounters clocks.old clocks.new) }
+    ensures adds { OnOk result (Adds nl.old nl.new 16 0) }
     ensures counted { OnOk result (Counted nl.old nl.new (made_of clocks.old) (made_of clocks.new) 1 1) }
-    ensures full { IsFullAt result nl.new }
     ensures held { IfOk result (λ y. IsHeld nl.new.cells clocks.old.rst (width_of nl.old.cells x.0) period ((arrival + d) % period) (held_phase period d clock) x.0 y.0) }
 {
     let begin = offset(arrival, d, period);
@@ -56,16 +58,16 @@ fn kept_net(
     period: u32,
     d: u32,
     arrival: u32,
-) -> Result<NetId, NetFault>
+) -> Result<NetId, AllocError>
     requires belongs { Belongs clocks.old nl.old.cells }
     requires net { IsNet nl.old.cells x.0 (width_of nl.old.cells x.0) }
     requires lasting { 1 ≤ period }
     requires limit { period ≤ 4096 }
-    ensures belongs { Belongs clocks.new nl.new.cells }
-    ensures keeps { KeepsCounters clocks.old clocks.new }
-    ensures adds { Adds nl.old nl.new (16 * (if is_some held then 1 else 0)) 0 }
+    requires room { HasRoom nl.old (16 * (if is_some held then 1 else 0)) }
+    ensures belongs { OnOk result (Belongs clocks.new nl.new.cells) }
+    ensures keeps { OnOk result (KeepsCounters clocks.old clocks.new) }
+    ensures adds { OnOk result (Adds nl.old nl.new (16 * (if is_some held then 1 else 0)) 0) }
     ensures counted { OnOk result (Counted nl.old nl.new (made_of clocks.old) (made_of clocks.new) (if is_some held then 1 else 0) (if is_some held then 1 else 0)) }
-    ensures full { IsFullAt result nl.new }
     ensures keeps_word { IfOk result (λ y. Keeps nl.new.cells clocks.old.rst period d arrival held x.0 y.0) }
 {
     let Some(clock) = held else {
@@ -86,17 +88,17 @@ pub fn all_nets(
     period: u32,
     d: u32,
     arrival: u32,
-) -> Result<Vec<NetId>, NetFault>
+) -> Result<Vec<NetId>, AllocError>
     requires belongs { Belongs clocks.old nl.old.cells }
     requires lasting { 1 ≤ period }
     requires limit { period ≤ 4096 }
     requires nets { (q : ℕ) → q < length ins.now → (w : ℕ) × IsNet nl.old.cells (net_of ins.now q) w }
     requires long { length held.now ≡ length ins.now }
-    ensures belongs { Belongs clocks.new nl.new.cells }
-    ensures keeps { KeepsCounters clocks.old clocks.new }
-    ensures adds { Adds nl.old nl.new (16 * kept_count held.now (length held.now)) 0 }
+    requires room { HasRoom nl.old (16 * kept_count held.now (length held.now)) }
+    ensures belongs { OnOk result (Belongs clocks.new nl.new.cells) }
+    ensures keeps { OnOk result (KeepsCounters clocks.old clocks.new) }
+    ensures adds { OnOk result (Adds nl.old nl.new (16 * kept_count held.now (length held.now)) 0) }
     ensures counted { OnOk result (Counted nl.old nl.new (made_of clocks.old) (made_of clocks.new) (kept_count held.now (length held.now)) (kept_count held.now (length held.now))) }
-    ensures full { IsFullAt result nl.new }
     ensures kept { IfOk result (λ all. AreKept nl.new.cells clocks.old.rst period d arrival ins.now held.now all.items) }
 {
     let mut all = Vec::new(alloc);

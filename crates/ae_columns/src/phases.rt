@@ -1,7 +1,8 @@
 // The counters that the columns of a move follow.
 
 ghost use Rattle.std.specs.Prelude.{◌≡◌, ◌≢◌, ◌<◌, ◌≤◌, ◌+◌, ◌*◌, ◌%◌, ℕ, true, false, length, min, IfOk, OnOk, Some, slice_get};
-ghost use Rattle.ae_clocked.specs.Signals.{Adds, IsFullAt};
+ghost use Rattle.ae_netlist.specs.Room.{HasRoom};
+ghost use Rattle.ae_gates.specs.Cells.{Adds};
 ghost use Rattle.ae_clocked.specs.Phases.{Belongs, KeepsCounters, made_of};
 ghost use Rattle.ae_columns.specs.Columns.{IsPhaseNet};
 ghost use Rattle.ae_columns.specs.Counts.{Counted};
@@ -9,7 +10,8 @@ ghost use Rattle.ae_columns.specs.Early.{HasCounter, counter_for, is_early};
 
 use crate::steps::{Counters, PhaseNet};
 use ae_clocked::Clocks;
-use ae_netlist::{NetFault, Netlist};
+use ae_netlist::Netlist;
+use std::alloc::AllocError;
 
 /// The phase in which blocks begin that arrive in one clock and are some clocks late.
 pub fn offset(arrival: u32, d: u32, period: u32) -> u32
@@ -27,16 +29,16 @@ pub fn counting(
     period: u32,
     offset: u32,
     limit: u32,
-) -> Result<PhaseNet, NetFault>
+) -> Result<PhaseNet, AllocError>
     requires belongs { Belongs clocks.old nl.old.cells }
     requires low { offset < period }
     requires high { period ≤ 4096 }
     requires limited { limit ≤ period }
-    ensures belongs { Belongs clocks.new nl.new.cells }
-    ensures keeps { KeepsCounters clocks.old clocks.new }
-    ensures adds { Adds nl.old nl.new 12 0 }
+    requires room { HasRoom nl.old 12 }
+    ensures belongs { OnOk result (Belongs clocks.new nl.new.cells) }
+    ensures keeps { OnOk result (KeepsCounters clocks.old clocks.new) }
+    ensures adds { OnOk result (Adds nl.old nl.new 12 0) }
     ensures counted { OnOk result (Counted nl.old nl.new (made_of clocks.old) (made_of clocks.new) 0 0) }
-    ensures full { IsFullAt result nl.new }
     ensures counts { IfOk result (λ y. IsPhaseNet nl.new.cells clocks.old.rst y) }
     ensures periodic { IfOk result (λ y. y.period ≡ period) }
     ensures offsets { IfOk result (λ y. y.offset ≡ offset) }
@@ -73,17 +75,17 @@ pub fn counters(
     d: u32,
     arrival: u32,
     limit: u32,
-) -> Result<Counters, NetFault>
+) -> Result<Counters, AllocError>
     requires belongs { Belongs clocks.old nl.old.cells }
     requires lasting { 1 ≤ period }
     requires limit { period ≤ 4096 }
     requires some { 1 ≤ length early.now }
     requires limited { limit ≤ period }
-    ensures belongs { Belongs clocks.new nl.new.cells }
-    ensures keeps { KeepsCounters clocks.old clocks.new }
-    ensures adds { Adds nl.old nl.new (12 * min 2 (length early.now)) 0 }
+    requires room { HasRoom nl.old (12 * min 2 (length early.now)) }
+    ensures belongs { OnOk result (Belongs clocks.new nl.new.cells) }
+    ensures keeps { OnOk result (KeepsCounters clocks.old clocks.new) }
+    ensures adds { OnOk result (Adds nl.old nl.new (12 * min 2 (length early.now)) 0) }
     ensures counted { OnOk result (Counted nl.old nl.new (made_of clocks.old) (made_of clocks.new) 0 0) }
-    ensures full { IsFullAt result nl.new }
     ensures counters { IfOk result (λ y. (q : ℕ) → q < length early.now → HasCounter nl.new.cells clocks.old.rst (arrival + d) period limit y (is_early early.now q)) }
 {
     let begin = offset(arrival, d, period);

@@ -2,13 +2,15 @@
 
 ghost use Rattle.std.specs.Prelude.{◌≡◌, ◌+◌, ◌*◌, ◌<◌, ◌≤◌, ◌++◌, OnOk, IfOk, ℕ, length, map};
 ghost use Rattle.ae_netlist.specs.Circuit.{IsNet};
+ghost use Rattle.ae_netlist.specs.Room.{HasRoom};
 ghost use Rattle.ae_control.specs.Cells.{IsLonger, choice};
 ghost use Rattle.ae_control.specs.Controls.{AreBits, AreWires, HasBegun, HasControlNets, HasFlagGates, IsControl, flag_net, gate_rows, net};
-ghost use Rattle.ae_control.specs.Count.{IsFullFor, control_cells};
+ghost use Rattle.ae_control.specs.Count.{control_cells};
 
 use crate::parts::{any_of, choices, connect_all, registers};
-use ae_netlist::{Cell, NetFault, NetId, Netlist};
+use ae_netlist::{Cell, NetId, Netlist};
 use ae_word::Width;
+use std::alloc::AllocError;
 
 /// The nets that a control reads, of one bit each: the reset; that words stand at the source, and that those at the sink are
 /// taken; the first and the last clock of a block; that elements of the parameters stand in a clock of a block, and that
@@ -58,25 +60,25 @@ fn flag(at: Places, j: u32) -> NetId
 }
 
 /// Adds the constants and the registers.
-fn begin(nl: &mut Netlist, blocks: u32) -> Result<(), NetFault>
+fn begin(nl: &mut Netlist, blocks: u32) -> Result<(), AllocError>
     requires few { blocks ≤ 1000000 }
-    ensures begun { OnOk result (HasBegun nl.old nl.new blocks) }
-    ensures full { IsFullFor result nl.old (blocks + 6) }
+    requires room { HasRoom nl.old (blocks + 6) }
+    ensures { OnOk result (HasBegun nl.old nl.new blocks) }
 {
-    nl.add(Width::BIT, Cell::Const(0))?;
-    nl.add(Width::BIT, Cell::Const(1))?;
+    nl.push(Width::BIT, Cell::Const(0))?;
+    nl.push(Width::BIT, Cell::Const(1))?;
     registers(nl, blocks + 4)?;
     Ok(())
 }
 
 /// Adds the gates. The last six of them are, two for each of the first three registers, those of what it takes.
-fn gates(nl: &mut Netlist, w: Wires, at: Places, busy: NetId) -> Result<(), NetFault>
+fn gates(nl: &mut Netlist, w: Wires, at: Places, busy: NetId) -> Result<(), AllocError>
     requires many { at.gates ≤ 4000000000 }
     requires blocks { at.base + at.blocks + 6 ≤ at.gates }
     requires here { at.gates ≡ length nl.old.cells }
     requires bits { AreBits nl.old.cells w at busy.0 }
-    ensures added { OnOk result (nl.new ≡ record nl.old { cells = nl.old.cells ++ map (choice 1) (gate_rows w at busy) }) }
-    ensures full { IsFullFor result nl.old 26 }
+    requires room { HasRoom nl.old 26 }
+    ensures { OnOk result (nl.new ≡ record nl.old { cells = nl.old.cells ++ map (choice 1) (gate_rows w at busy) }) }
 {
     let (low, high) = (NetId(at.base), NetId(at.base + 1));
     let (current, one, two) = (NetId(at.base + 2), NetId(at.base + 3), NetId(at.base + 4));
@@ -119,7 +121,7 @@ fn gates(nl: &mut Netlist, w: Wires, at: Places, busy: NetId) -> Result<(), NetF
 }
 
 /// Adds two gates for each flag: what it takes, and the same but for the reset.
-fn flag_gates(nl: &mut Netlist, reset: NetId, at: Places) -> Result<(), NetFault>
+fn flag_gates(nl: &mut Netlist, reset: NetId, at: Places) -> Result<(), AllocError>
     requires many { at.gates ≤ 4000000000 }
     requires few { at.blocks ≤ 1000000 }
     requires blocks { at.base + at.blocks + 6 ≤ at.gates }
@@ -127,8 +129,8 @@ fn flag_gates(nl: &mut Netlist, reset: NetId, at: Places) -> Result<(), NetFault
     requires reset { IsNet nl.old.cells reset.0 1 }
     requires own { (k : ℕ) → k < at.blocks + 6 → IsNet nl.old.cells (at.base + k) 1 }
     requires gates { (k : ℕ) → k < 26 → IsNet nl.old.cells (at.gates + k) 1 }
-    ensures flags { OnOk result (HasFlagGates nl.old nl.new reset at (at.blocks + 1)) }
-    ensures full { IsFullFor result nl.old (2 * (at.blocks + 1)) }
+    requires room { HasRoom nl.old (2 * (at.blocks + 1)) }
+    ensures { OnOk result (HasFlagGates nl.old nl.new reset at (at.blocks + 1)) }
 {
     let (low, turns, g) = (NetId(at.base), NetId(at.gates + 20), at.gates + 26);
     for j in 0..at.blocks + 1 {
@@ -145,15 +147,15 @@ fn flag_gates(nl: &mut Netlist, reset: NetId, at: Places) -> Result<(), NetFault
 
 /// Adds the control of a circuit whose latency is so many blocks and some clocks: it says in which clocks the circuit steps,
 /// so that in any run in which the nets mark its clocks the words that pass are those of the blocks. As long as one of the
-/// first `wait` flags is 1 it steps on by empty blocks. `Full` comes only where there is no room for its cells.
-pub fn control(nl: &mut Netlist, w: Wires, blocks: u32, wait: u32) -> Result<Controlled, NetFault>
+/// first `wait` flags is 1 it steps on by empty blocks.
+pub fn control(nl: &mut Netlist, w: Wires, blocks: u32, wait: u32) -> Result<Controlled, AllocError>
     requires few { blocks ≤ 1000000 }
     requires waits { wait ≤ blocks + 1 }
     requires many { nl.old.limit ≤ 4000000000 }
     requires nets { AreWires nl.old.cells w }
+    requires room { HasRoom nl.old (control_cells blocks) }
     ensures longer { OnOk result (IsLonger nl.old nl.new) }
     ensures few { OnOk result (length nl.new.cells ≤ length nl.old.cells + control_cells blocks) }
-    ensures full { IsFullFor result nl.old (control_cells blocks) }
     ensures control { IfOk result (λ c. IsControl (length nl.old.cells) nl.new.cells w blocks wait c) }
     ensures nets { IfOk result (λ c. HasControlNets (length nl.old.cells) nl.new.cells c) }
 {

@@ -20,7 +20,7 @@ use Rattle.ae_judge.specs.Names.{is_clock, is_input_kind, is_register_kind}
 use Rattle.ae_runs.specs.SameRuns.{is_input_cell, is_state_cell, cell_depth, input_cells, kind_depth}
 use Rattle.ae_runs.specs.Named.{StandsFor}
 use Rattle.ae_elab.specs.Declaring.{AddsCell, AreDeclared, ArePlainInputs, IsUnconnected, given_cell, is_data_input, is_given, is_state, number_of, with_nets}
-use Rattle.ae_gates.proofs.Words.{left_out}
+use Rattle.ae_elab.proofs.Unchanged.{left_out, same_input}
 use Rattle.ae_express.proofs.NetLaws.{stands_later}
 
 -- a cell that passes comes last
@@ -80,10 +80,6 @@ module _ {Z : Type 0} (test : NetTree → Bool) (f : ℕ → NetTree → Z) wher
       → test x ≡ false → all ≡ with_nets test f ns nets
       → all ≡ with_nets test f (ns ++ x ∷ []) (nets ++ net ∷ [])
   pairs_same ns nets x net all l n e = e ∙ sym (with_nets_push ns nets x net l ∙ rw n refl)
-
-same_input : (c : Cell) → is_input_cell c ≡ is_input c
-same_input (InputCell port) = refl
-same_input _ = refl
 
 -- as many inputs as there are cells that are one
 pub inputs_counted : (k : ℕ) (cells : List SizedCell) → length

@@ -137,9 +137,9 @@ free_later : (k : NetKind) (a b : Circuit) (n w : ℕ) → GrowsByGates a b → 
 free_later Input a b n w g h = tt
 free_later Wire a b n w g h = tt
 free_later OutWire a b n w g h = tt
-free_later Reg a b n w g h = g.extends.keeps n _ h
-free_later OutReg a b n w g h = g.extends.keeps n _ h
-free_later (Memory depth) a b n w g h = g.extends.keeps n _ h
+free_later Reg a b n w g h = g.grows.extends.keeps n _ h
+free_later OutReg a b n w g h = g.grows.extends.keeps n _ h
+free_later (Memory depth) a b n w g h = g.grows.extends.keeps n _ h
 
 pub unconnected_grows : (m : ModuleTree) (from : ℕ) (ys : List (Option NetId)) (a b : Circuit) → GrowsByGates a b → AreUnconnected m from ys a.cells
     → AreUnconnected m from ys b.cells

@@ -10,3 +10,4 @@ mod Showing
 mod WeightParts
 mod Wiring
 mod Tables
+mod Unchanged

@@ -33,14 +33,14 @@ fn construct(
     alloc: Global,
     names: &Names<'_>,
     m: &VModule<'_>,
-    values: &[Option<Expr<'_>>],
-    order: &[u32],
+    values: Vec<Option<Expr<'_>>>,
+    order: Vec<u32>,
 ) -> Result<Netlist, AllocError>
     requires names { names.now ≡ table_of m.now.words m.now.nets.items }
     requires shape { IsShapely (module_tree m.now) }
     requires regular { IsRegular (module_tree m.now) }
-    requires values { map (value_tree names.now.words) values.now ≡ values_of (module_tree m.now) }
-    requires sorted { IsWireOrder (module_tree m.now) order.now }
+    requires values { map (value_tree names.now.words) values.items ≡ values_of (module_tree m.now) }
+    requires sorted { IsWireOrder (module_tree m.now) order.items }
     requires small { weight (module_tree m.now) ≤ 10000000 }
     ensures realizes { IfOk result (λ n. (at : List ℕ → ℕ) × Realizes (module_tree m.now) n at) }
     ensures few { IfOk result (λ n. length n.cells ≤ 8 * weight (module_tree m.now)) }
@@ -68,7 +68,7 @@ fn ordered(alloc: Global, names: &Names<'_>, m: &VModule<'_>) -> Result<Netlist,
 {
     let values = drive_values(alloc, names, m)?;
     let order = sorted_wires(alloc, names, m, &values)?;
-    let nl = construct(alloc, names, m, &values, &order)?;
+    let nl = construct(alloc, names, m, values, order)?;
     Ok(nl)
 }
 

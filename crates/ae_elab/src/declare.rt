@@ -8,7 +8,7 @@ ghost use Rattle.ae_netlist.specs.Counts.{count_of, is_input};
 ghost use Rattle.ae_judge.specs.Table.{table_of};
 ghost use Rattle.ae_judge.specs.Regular.{IsRegular};
 ghost use Rattle.ae_judge.specs.Shape.{IsShapely};
-ghost use Rattle.ae_gates.specs.Cells.{HasRoom};
+ghost use Rattle.ae_netlist.specs.Room.{HasRoom};
 ghost use Rattle.ae_elab.specs.Declaring.{AddsCell, AreDeclared, given_cell};
 
 use ae_judge::{Names, clock_of, is_named};

@@ -11,7 +11,8 @@ ghost use Rattle.ae_judge.specs.Faults.{NetAt};
 ghost use Rattle.ae_runs.specs.Runs.{IsStep};
 ghost use Rattle.ae_judge.specs.Regular.{IsRegular};
 ghost use Rattle.ae_judge.specs.Shape.{IsShapely};
-ghost use Rattle.ae_gates.specs.Cells.{GrowsByGates, HasRoom};
+ghost use Rattle.ae_netlist.specs.Room.{HasRoom};
+ghost use Rattle.ae_gates.specs.Cells.{AddsGates, GrowsByGates};
 ghost use Rattle.ae_runs.specs.Named.{AreNamed, AreNets, read};
 ghost use Rattle.ae_elab.specs.Declaring.{AreUnconnected, HasNet, IsUnconnected, is_state};
 ghost use Rattle.ae_elab.specs.Connecting.{Connects};
@@ -39,9 +40,7 @@ fn act_item(
     requires nexts { FitNexts names.now.nets nexts.old.items nl.old.cells }
     requires fresh { AreFresh names.now.nets nexts.old.items (item_targets (item_tree names.now.words item.now)) }
     requires room { HasRoom nl.old (8 * edge_weight (item_tree names.now.words item.now)) }
-    ensures grows { OnOk result (GrowsByGates nl.old nl.new) }
-    ensures more { OnOk result (length nl.old.cells ≤ length nl.new.cells) }
-    ensures few { OnOk result (length nl.new.cells ≤ length nl.old.cells + 8 * edge_weight (item_tree names.now.words item.now)) }
+    ensures adds { OnOk result (AddsGates nl.old nl.new (8 * edge_weight (item_tree names.now.words item.now))) }
     ensures nexts { OnOk result (FitNexts names.now.nets nexts.new.items nl.new.cells) }
     ensures others { OnOk result (OthersKeep names.now.nets nexts.old.items nexts.new.items (item_targets (item_tree names.now.words item.now))) }
     ensures acts { OnOk result (ActsItems from names.now.nets nets.now nl.new.cells nexts.old.items nexts.new.items (item_tree names.now.words item.now ∷ [])) }

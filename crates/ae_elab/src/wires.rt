@@ -10,7 +10,8 @@ ghost use Rattle.ae_judge.specs.Table.{table_of};
 ghost use Rattle.ae_judge.specs.Weight.{drive_weight};
 ghost use Rattle.ae_judge.specs.Regular.{IsRegular};
 ghost use Rattle.ae_judge.specs.Shape.{IsShapely};
-ghost use Rattle.ae_gates.specs.Cells.{GrowsByGates, HasRoom};
+ghost use Rattle.ae_netlist.specs.Room.{HasRoom};
+ghost use Rattle.ae_gates.specs.Cells.{GrowsByGates};
 ghost use Rattle.ae_order.specs.Drives.{IsWireOrder, value_tree, values_of};
 ghost use Rattle.ae_elab.specs.Declaring.{AreDeclared};
 ghost use Rattle.ae_elab.specs.Wiring.{AreWired, IsWiring, KeepsNets, open_weight};
@@ -86,21 +87,22 @@ fn add_wire(
     }
 }
 
-/// The nets of all wires, each behind those of the names that its equation reads.
+/// The nets of all wires, each behind those of the names that its equation reads. The values and the order go, so that they are
+/// not in memory beside what comes after.
 pub fn add_wires(
     nl: &mut Netlist,
     from: u32,
     names: &Names<'_>,
     m: &VModule<'_>,
-    values: &[Option<Expr<'_>>],
-    order: &[u32],
+    values: Vec<Option<Expr<'_>>>,
+    order: Vec<u32>,
     nets: &mut Vec<Option<NetId>>,
 ) -> Result<(), AllocError>
     requires names { names.now ≡ table_of m.now.words m.now.nets.items }
     requires shape { IsShapely (module_tree m.now) }
     requires regular { IsRegular (module_tree m.now) }
-    requires values { map (value_tree names.now.words) values.now ≡ values_of (module_tree m.now) }
-    requires sorted { IsWireOrder (module_tree m.now) order.now }
+    requires values { map (value_tree names.now.words) values.items ≡ values_of (module_tree m.now) }
+    requires sorted { IsWireOrder (module_tree m.now) order.items }
     requires from { from ≡ length nl.old.cells }
     requires declared { AreDeclared (module_tree m.now) (module_tree m.now).nets nets.old.items nl.old.cells }
     requires room { HasRoom nl.old (8 * sum_by drive_weight (equations (module_tree m.now))) }
@@ -110,7 +112,7 @@ pub fn add_wires(
     ensures few { OnOk result (length nl.new.cells ≤ length nl.old.cells + 8 * sum_by drive_weight (equations (module_tree m.now))) }
 {
     for turn in 0..order.len() {
-        add_wire(nl, from, names, m, values, order, turn, nets)?;
+        add_wire(nl, from, names, m, &values, &order, turn, nets)?;
     }
     Ok(())
 }

@@ -16,7 +16,7 @@ use Rattle.ae_gates.specs.declared.compounds.Way.{Way}
 use Rattle.ae_gates.specs.Shifts.{moved}
 use Rattle.ae_express.specs.Forms.{IsShiftForm, most_cells}
 use Rattle.ae_express.specs.ConstantValue.{IsConstantOf}
-use Rattle.ae_gates.specs.Cells.{GrowsByGates, IsWord}
+use Rattle.ae_gates.specs.Cells.{AddsGates, GrowsByGates, IsWord}
 use Rattle.ae_runs.specs.Named.{AreNamed, AreNets, read}
 use Rattle.ae_express.specs.Lowered.{IsLowered}
 use Rattle.ae_gates.proofs.Words.{grows_refl, grows_trans}
@@ -25,9 +25,7 @@ use Rattle.ae_express.proofs.Arms.{Has, index_arm, not_arm, flip_arm, constant_a
 
 -- a call that adds at most k cells
 pub record AddsNet {E : Type 0} (r : Result NetId E) (old new : Circuit) (k w : ℕ) : Type 0 where
-  pub grows : OnOk r (GrowsByGates old new)
-  pub more : OnOk r (length old.cells ≤ length new.cells)
-  pub few : OnOk r (length new.cells ≤ length old.cells + k)
+  pub adds : OnOk r (AddsGates old new k)
   pub net : IfOk r (λ y. IsNet new.cells y.0 w)
 
 -- what was done before, and then such a call
@@ -36,14 +34,14 @@ pub lowered : {E : Type 0} (from : ℕ) (ns : List NetTree) (nets : List (Option
     → GrowsByGates old mid → length old.cells ≤ length mid.cells → length mid.cells + k ≤ length old.cells + most → AreNets ns nets mid.cells
     → AddsNet r mid new k w → IfOk r (λ y. Has from ns nets new.cells y.0 w e) → IfOk r (λ y. IsLowered from ns nets old new most y.0 w e)
 lowered from ns nets old mid new (Ok y) k most w e before more room ready adds word =
-    let m = adds.more in
-    let f = adds.few in
+    let m = adds.adds.more in
+    let f = adds.adds.few in
     record {
-      grows = grows_trans before adds.grows;
+      grows = grows_trans before adds.adds.grows;
       more = omega arith;
       few = omega arith;
       net = adds.net;
-      nets = nets_grow adds.grows ready;
+      nets = nets_grow adds.adds.grows ready;
       word = word;
     }
 lowered from ns nets old mid new (Err x) k most w e before more room ready adds word = tt

@@ -27,7 +27,7 @@ pub nets_keep : {ns : List NetTree} {nets : List (Option NetId)} {a b : List Siz
 nets_keep {ns} {nets} {a} {b} g h = record { long = h.long; each = λ p x y i j. stands_later x.kind a b y.0 x.width g (h.each p x y i j) }
 
 pub nets_grow : {ns : List NetTree} {nets : List (Option NetId)} {a b : Circuit} → GrowsByGates a b → AreNets ns nets a.cells → AreNets ns nets b.cells
-nets_grow g h = nets_keep (keeps_extends g.extends) h
+nets_grow g h = nets_keep (keeps_extends g.grows.extends) h
 
 stands_word : (k : NetKind) (cells : List SizedCell) (n w : ℕ) → is_memory_kind k ≡ false → StandsFor k cells n w → IsNet cells n w
 stands_word (Memory depth) cells n w f h = absurd (cc)
@@ -82,14 +82,12 @@ pub own_net : {cells : List SizedCell} {n w : ℕ} → IsNet cells n w → IsNet
 own_net h = rw (net_width h) h
 
 -- a constant that is an address
-pub constant_address : (old new : Circuit) (y : NetId) (w k depth : ℕ) → y ≡ record { 0 = length old.cells }
-    → new ≡ record old { cells = old.cells ++ (record { width = w; cell = Const k }) ∷ [] } → k < depth → IsAddress new.cells y.0 depth
-constant_address old new y w k depth i e l =
-    rw (e, i) (record {
-      net = (let n : IsNet (old.cells ++ (record { width = w; cell = Const k }) ∷ [])
-          (length old.cells) w = record { sized = record { width = w; cell = Const k }; found = get_pushed old.cells _; plain = tt; wide = refl } in own_net n);
-      inside = inr (record { width = w; constant = k; found = get_pushed old.cells _; below = l });
-    })
+pub constant_address : (cells : List SizedCell) (y w k depth : ℕ) → slice_get cells y ≡ Some (record { width = w; cell = Const k }) → k < depth
+    → IsAddress cells y depth
+constant_address cells y w k depth h l = record {
+  net = (let n : IsNet cells y w = record { sized = record { width = w; cell = Const k }; found = h; plain = tt; wide = refl } in own_net n);
+  inside = inr (record { width = w; constant = k; found = h; below = l });
+}
 
 -- a net whose words all have a place
 pub varying_address : (cells : List SizedCell) (n w depth : ℕ) → IsNet cells n w → 2 ^ w ≤ depth → IsAddress cells n depth

@@ -6,7 +6,7 @@ ghost use Rattle.ae_vmodule.specs.Roots.{numbered};
 ghost use Rattle.ae_vmodule.specs.View.{expr_tree};
 ghost use Rattle.ae_judge.specs.Widths.{own_width};
 ghost use Rattle.ae_judge.specs.Weight.{expr_weight};
-ghost use Rattle.ae_gates.specs.Cells.{HasRoom};
+ghost use Rattle.ae_netlist.specs.Room.{HasRoom};
 ghost use Rattle.ae_express.specs.Asked.{EndsWith, part_widths};
 ghost use Rattle.ae_express.specs.Lowered.{IsLowered};
 ghost use Rattle.ae_runs.specs.Named.{AreNets};

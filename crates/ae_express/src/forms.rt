@@ -9,7 +9,8 @@ ghost use Rattle.ae_judge.specs.Widths.{binary_width, own_width};
 ghost use Rattle.ae_judge.specs.Weight.{operator_weight, shift_weight};
 ghost use Rattle.ae_runs.specs.Values.{binary_result, left_width, right_width};
 ghost use Rattle.ae_order.specs.Sound.{IsSound};
-ghost use Rattle.ae_gates.specs.Cells.{GrowsByGates, HasRoom, IsWord};
+ghost use Rattle.ae_netlist.specs.Room.{HasRoom};
+ghost use Rattle.ae_gates.specs.Cells.{AddsGates, IsWord};
 ghost use Rattle.ae_express.specs.ConstantValue.{IsConstantOf};
 ghost use Rattle.ae_express.specs.Forms.{IsForm, IsShiftForm, most_cells, relation_result};
 
@@ -138,9 +139,7 @@ pub fn compare(
     requires left { IsNet nl.old.cells a.0 own }
     requires right { IsNet nl.old.cells b.0 own }
     requires room { HasRoom nl.old 3 }
-    ensures grows { OnOk result (GrowsByGates nl.old nl.new) }
-    ensures more { OnOk result (length nl.old.cells ≤ length nl.new.cells) }
-    ensures few { OnOk result (length nl.new.cells ≤ length nl.old.cells + 3) }
+    ensures adds { OnOk result (AddsGates nl.old nl.new 3) }
     ensures net { IfOk result (λ y. IsNet nl.new.cells y.0 width) }
     ensures word { IfOk result (λ y. (f g : List Clock → ℕ → ℕ) → IsWord from nl.old.cells a.0 own f → IsWord from nl.old.cells b.0 own g → IsWord from nl.new.cells y.0 width (λ run t. relation_result how (f run t) (g run t))) }
 {
@@ -178,9 +177,7 @@ pub fn combine(
     requires left { IsNet nl.old.cells x.0 wx }
     requires right { IsNet nl.old.cells y.0 wy }
     requires room { HasRoom nl.old (most_cells op) }
-    ensures grows { OnOk result (GrowsByGates nl.old nl.new) }
-    ensures more { OnOk result (length nl.old.cells ≤ length nl.new.cells) }
-    ensures few { OnOk result (length nl.new.cells ≤ length nl.old.cells + most_cells op) }
+    ensures adds { OnOk result (AddsGates nl.old nl.new (most_cells op)) }
     ensures net { IfOk result (λ z. IsNet nl.new.cells z.0 w) }
     ensures word { IfOk result (λ z. (f g : List Clock → ℕ → ℕ) → IsWord from nl.old.cells x.0 wx f → IsWord from nl.old.cells y.0 wy g → IsWord from nl.new.cells z.0 w (λ run t. binary_result op w (f run t) (g run t))) }
 {

@@ -8,7 +8,8 @@ ghost use Rattle.ae_judge.specs.Weight.{expr_weight};
 ghost use Rattle.ae_judge.specs.Widths.{own_width};
 ghost use Rattle.ae_runs.specs.Named.{AreNamed, AreNets, read};
 ghost use Rattle.ae_order.specs.Sound.{IsReadyFor, IsSound};
-ghost use Rattle.ae_gates.specs.Cells.{GrowsByGates, HasRoom, IsWord};
+ghost use Rattle.ae_netlist.specs.Room.{HasRoom};
+ghost use Rattle.ae_gates.specs.Cells.{AddsGates, IsWord};
 ghost use Rattle.ae_express.specs.Lowered.{IsLowered, fitted};
 
 use crate::expressions::lower;
@@ -85,9 +86,7 @@ pub fn given_word(
     requires low { 1 ≤ width }
     requires high { width ≤ 64 }
     requires room { HasRoom nl.old (8 * expr_weight (expr_tree names.now.words (numbered e)) + 2) }
-    ensures grows { OnOk result (GrowsByGates nl.old nl.new) }
-    ensures more { OnOk result (length nl.old.cells ≤ length nl.new.cells) }
-    ensures few { OnOk result (length nl.new.cells ≤ length nl.old.cells + 8 * expr_weight (expr_tree names.now.words (numbered e.entry)) + 2) }
+    ensures adds { OnOk result (AddsGates nl.old nl.new (8 * expr_weight (expr_tree names.now.words (numbered e.entry)) + 2)) }
     ensures net { IfOk result (λ y. IsNet nl.new.cells y.0 width) }
     ensures word { IfOk result (λ y. (at : List ℕ → ℕ) → AreNamed names.now.nets nets.now at → IsWord from nl.new.cells y.0 width (λ run t. fitted names.now.nets (read at run t) width (expr_tree names.now.words (numbered e.entry)))) }
 {

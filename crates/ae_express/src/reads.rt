@@ -7,13 +7,14 @@ ghost use Rattle.ae_vmodule.specs.ModuleTree.{index as index_tree, name as name_
 ghost use Rattle.ae_judge.specs.Names.{depth_of, is_memory_name};
 ghost use Rattle.ae_judge.specs.Widths.{declared_width};
 ghost use Rattle.ae_runs.specs.Values.{value_at};
-ghost use Rattle.ae_gates.specs.Cells.{GrowsByGates, HasRoom, IsWord};
+ghost use Rattle.ae_netlist.specs.Room.{HasRoom};
+ghost use Rattle.ae_gates.specs.Cells.{AddsGates, IsWord};
 ghost use Rattle.ae_runs.specs.Named.{AreNamed, AreNets, IsNamed, IsReady, place_of, read};
 ghost use Rattle.ae_order.specs.Sound.{IsWordName, places_of};
 ghost use Rattle.ae_vmodule.specs.View.{word_at};
 
 use crate::own::name_width;
-use ae_gates::{cut, widen};
+use ae_gates::{constant, cut, widen};
 use ae_judge::Names;
 use ae_netlist::{Cell, NetId, Netlist};
 use ae_order::place_of;
@@ -48,9 +49,7 @@ pub fn read_name(
     requires high { w ≤ 64 }
     requires within { declared_width names.now.nets (word_at names.now.words name) ≤ w }
     requires room { HasRoom nl.old 1 }
-    ensures grows { OnOk result (GrowsByGates nl.old nl.new) }
-    ensures more { OnOk result (length nl.old.cells ≤ length nl.new.cells) }
-    ensures few { OnOk result (length nl.new.cells ≤ length nl.old.cells + 1) }
+    ensures adds { OnOk result (AddsGates nl.old nl.new 1) }
     ensures net { IfOk result (λ y. IsNet nl.new.cells y.0 w) }
     ensures word { IfOk result (λ y. (at : List ℕ → ℕ) → AreNamed names.now.nets nets.now at → IsWord from nl.new.cells y.0 w (λ run t. value_at names.now.nets (read at run t) w (name_tree (word_at names.now.words name)))) }
 {
@@ -80,9 +79,7 @@ pub fn read_part(
     requires most { w ≤ 64 }
     requires within { high - low + 1 ≤ w }
     requires room { HasRoom nl.old 3 }
-    ensures grows { OnOk result (GrowsByGates nl.old nl.new) }
-    ensures more { OnOk result (length nl.old.cells ≤ length nl.new.cells) }
-    ensures few { OnOk result (length nl.new.cells ≤ length nl.old.cells + 3) }
+    ensures adds { OnOk result (AddsGates nl.old nl.new 3) }
     ensures net { IfOk result (λ y. IsNet nl.new.cells y.0 w) }
     ensures word { IfOk result (λ y. (at : List ℕ → ℕ) → AreNamed names.now.nets nets.now at → IsWord from nl.new.cells y.0 w (λ run t. value_at names.now.nets (read at run t) w (part_tree (word_at names.now.words name) high low))) }
 {
@@ -108,9 +105,7 @@ fn peek(
     requires memory { IsMemory nl.old.cells memory.0 width _depth }
     requires address { IsAddress nl.old.cells at.0 _depth }
     requires room { HasRoom nl.old 1 }
-    ensures grows { OnOk result (GrowsByGates nl.old nl.new) }
-    ensures more { OnOk result (length nl.old.cells ≤ length nl.new.cells) }
-    ensures few { OnOk result (length nl.new.cells ≤ length nl.old.cells + 1) }
+    ensures adds { OnOk result (AddsGates nl.old nl.new 1) }
     ensures net { IfOk result (λ y. IsNet nl.new.cells y.0 width) }
     ensures word { IfOk result (λ y. (f : List Clock → ℕ → ℕ) → IsWord from nl.old.cells at.0 _own f → IsWord from nl.new.cells y.0 width (λ run t. get_or (store_at run t memory.0) (f run t) 0)) }
 {
@@ -123,14 +118,12 @@ pub fn address(nl: &mut Netlist, from: u32, place: u32) -> Result<NetId, AllocEr
     requires from { from ≤ length nl.old.cells }
     requires below { place < 65536 }
     requires room { HasRoom nl.old 1 }
-    ensures grows { OnOk result (GrowsByGates nl.old nl.new) }
-    ensures more { OnOk result (length nl.old.cells ≤ length nl.new.cells) }
-    ensures few { OnOk result (length nl.new.cells ≤ length nl.old.cells + 1) }
+    ensures adds { OnOk result (AddsGates nl.old nl.new 1) }
     ensures net { IfOk result (λ y. IsNet nl.new.cells y.0 16) }
     ensures word { IfOk result (λ y. IsWord from nl.new.cells y.0 16 (λ run t. place)) }
     ensures address { IfOk result (λ y. (depth : ℕ) → place < depth → IsAddress nl.new.cells y.0 depth) }
 {
-    let y = nl.push(Width { bits: 16 }, Cell::Const(u64::from(place)))?;
+    let y = constant(nl, Width { bits: 16 }, u64::from(place))?;
     Ok(y)
 }
 
@@ -152,9 +145,7 @@ pub fn read_place(
     requires high { w ≤ 64 }
     requires within { (if is_memory_name names.now.nets (word_at names.now.words name) then declared_width names.now.nets (word_at names.now.words name) else 1) ≤ w }
     requires room { HasRoom nl.old 3 }
-    ensures grows { OnOk result (GrowsByGates nl.old nl.new) }
-    ensures more { OnOk result (length nl.old.cells ≤ length nl.new.cells) }
-    ensures few { OnOk result (length nl.new.cells ≤ length nl.old.cells + 3) }
+    ensures adds { OnOk result (AddsGates nl.old nl.new 3) }
     ensures net { IfOk result (λ y. IsNet nl.new.cells y.0 w) }
     ensures word { IfOk result (λ y. (at : List ℕ → ℕ) → AreNamed names.now.nets nets.now at → IsWord from nl.new.cells y.0 w (λ run t. value_at names.now.nets (read at run t) w (index_tree (word_at names.now.words name) (place_tree k)))) }
 {
@@ -191,9 +182,7 @@ pub fn read_word(
     requires high { w ≤ 64 }
     requires within { declared_width names.now.nets (word_at names.now.words name) ≤ w }
     requires room { HasRoom nl.old 2 }
-    ensures grows { OnOk result (GrowsByGates nl.old nl.new) }
-    ensures more { OnOk result (length nl.old.cells ≤ length nl.new.cells) }
-    ensures few { OnOk result (length nl.new.cells ≤ length nl.old.cells + 2) }
+    ensures adds { OnOk result (AddsGates nl.old nl.new 2) }
     ensures net { IfOk result (λ y. IsNet nl.new.cells y.0 w) }
     ensures word { IfOk result (λ y. (at_of : List ℕ → ℕ) (f : List Clock → ℕ → ℕ) → AreNamed names.now.nets nets.now at_of → IsWord from nl.old.cells at.0 own f → IsWord from nl.new.cells y.0 w (λ run t. get_or ((read at_of run t).store (word_at names.now.words name)) (f run t) 0)) }
 {

@@ -10,12 +10,12 @@ use Rattle.ae_netlist.specs.declared.cell.SizedCell.{SizedCell}
 use Rattle.ae_netlist.specs.Circuit.{Circuit, IsNet, Extends}
 use Rattle.ae_netlist.proofs.Gets.{get_push_cases}
 use Rattle.ae_netlist.proofs.Growing.{extends_trans, net_later}
-use Rattle.ae_clocked.specs.Signals.{Adds}
+use Rattle.ae_gates.specs.Cells.{Adds}
 use Rattle.ae_fold.specs.declared.words.WordFold.{WordFold}
 use Rattle.ae_fold.specs.declared.plan.Plan.{Plan}
 use Rattle.ae_fold.specs.declared.feedback.Loop.{Loop}
 use Rattle.ae_fold.specs.declared.marks.SlotMark.{SlotMark}
-use Rattle.ae_fold.specs.Folding.{AddsUpTo, AreFolds, fold_at}
+use Rattle.ae_fold.specs.Folding.{AreFolds, fold_at}
 use Rattle.ae_fold.specs.Rows.{AreEnds, AreFoldNets, AreFollowers, AreOverLanes, AreScans, Follows, IsMark, IsOverLanes, IsPlan, IsScan, Marks, net_at, wait_of}
 use Rattle.ae_fold.specs.Feedback.{AddsStores}
 use Rattle.ae_fold.proofs.Storing.{stores_is, stores_of, stores_trans}
@@ -216,13 +216,6 @@ ends_long cells rst folds nets from stride inner (Some first) outs long h =
     )
 
 -- ---- the cells and products of loops and of the nets behind them
-
-pub loops_up : (a b : Circuit) (from stride inner total : ℕ) → total ≡ from + stride → AddsUpTo a b ((total - from) * (inner + 9))
-    → AddsUpTo a b (stride * (inner + 9) + from * 10)
-loops_up a b from stride inner total e h =
-    let n : total - from ≡ stride = omega arith in
-    let made : AddsUpTo a b (stride * (inner + 9)) = rw n at h in
-    record { grows = made.grows; cells = omega (arith, made.cells) }
 
 pub loops_adds : (a b c : Circuit) (from stride inner total muls stores : ℕ) → total ≡ from + stride
     → AddsStores a b ((total - from) * (inner + 9)) ((total - from) * muls) ((total - from) * stores) → Adds b c (from * 10) (from * muls)

@@ -7,11 +7,10 @@ use Rattle.ae_netlist.specs.declared.cell.SizedCell.{SizedCell}
 use Rattle.ae_netlist.specs.Circuit.{Circuit}
 use Rattle.ae_netlist.specs.Runs.{Clock, word_at, InEveryRunFrom}
 use Rattle.ae_netlist.proofs.Carried.{carries_later}
-use Rattle.ae_clocked.specs.Signals.{Adds, Grows, IsLater, IsResult, IsNextOf}
+use Rattle.ae_gates.specs.Cells.{Adds, Grows, IsResult}
+use Rattle.ae_clocked.specs.Signals.{IsLater, IsNextOf}
 use Rattle.ae_clocked.specs.Delays.{IsLate}
-use Rattle.ae_clocked.proofs.Added.{back, grows_length}
-use Rattle.ae_clocked.proofs.Adding.{grows_trans}
-use Rattle.ae_fold.specs.Folding.{AddsUpTo}
+use Rattle.ae_gates.proofs.Added.{back, grows_length}
 use Rattle.ae_fold.specs.Feedback.{Continues}
 
 pub trail_none : (cells : List SizedCell) (x : ℕ) → InEveryRunFrom (length cells) cells (λ run. IsLate run x x 0)
@@ -38,12 +37,6 @@ continues run op w d y start z old x first both next late comb pick reg = record
 }
 
 -- ---- at most so many cells
-
-pub adds_up : {a b : Circuit} {most muls : ℕ} (bound : ℕ) → most ≤ bound → Adds a b most muls → AddsUpTo a b bound
-adds_up bound l h = record { grows = h.grows; cells = omega (arith, h.cells) }
-
-pub up_trans : {a b c : Circuit} {m n muls : ℕ} (bound : ℕ) → m + n ≤ bound → Adds a b m muls → AddsUpTo b c n → AddsUpTo a c bound
-up_trans bound l p q = record { grows = grows_trans p.grows q.grows; cells = omega (arith, p.cells, q.cells) }
 
 -- with a greater bound, and as many products in other words
 pub adds_is : {a b : Circuit} {m n k j : ℕ} → m ≤ n → k ≡ j → Adds a b m k → Adds a b n j

@@ -1,6 +1,6 @@
 -- One loop more, and lists of nets as they grow.
 use Rattle.std.proofs.Common.{ℕ, ◌≡◌, ◌+◌, ◌*◌, ◌%◌, ◌<◌, ◌≤◌, inl, inr, List, ◌++◌, ◌∷◌, [], length, Some, slice_get, arith, ◌∙◌, subst}
-use Rattle.std.proofs.Math.Nat.{add-mul, mul-le-mul_right}
+use Rattle.std.proofs.Math.Nat.{add-mul}
 use Rattle.std.proofs.lemmas.Nat.{mod_below}
 use Rattle.std.proofs.lemmas.Option.{slice_get_within, slice_get-get_or}
 use Rattle.ae_netlist.specs.declared.cell.NetId.{NetId}
@@ -8,14 +8,14 @@ use Rattle.ae_netlist.specs.declared.cell.SizedCell.{SizedCell}
 use Rattle.ae_netlist.specs.Circuit.{Circuit, Extends, IsNet}
 use Rattle.ae_netlist.proofs.Gets.{get_push_cases}
 use Rattle.ae_netlist.proofs.Growing.{extends_trans, net_later}
-use Rattle.ae_clocked.specs.Signals.{Adds}
-use Rattle.ae_clocked.proofs.Adding.{adds_trans}
+use Rattle.ae_gates.specs.Cells.{Adds}
+use Rattle.ae_gates.proofs.Adding.{adds_trans}
 use Rattle.ae_ops.specs.Folds.{IsFold}
 use Rattle.ae_fold.specs.declared.words.WordFold.{WordFold}
 use Rattle.ae_fold.specs.declared.feedback.Loop.{Loop}
-use Rattle.ae_fold.specs.Folding.{AddsUpTo, AreFolds, fold_at, product_of, products_in}
+use Rattle.ae_fold.specs.Folding.{AreFolds, fold_at, product_of, products_in}
 use Rattle.ae_fold.specs.Rows.{AreFoldNets, AreLoops, IsLoop, IsOverLanes, AreOverLanes, net_at}
-use Rattle.ae_fold.proofs.Feeding.{adds_is, up_trans}
+use Rattle.ae_fold.proofs.Feeding.{adds_is}
 
 -- ---- the folds of words
 
@@ -97,9 +97,3 @@ adds_once n most muls own e p q =
     let m : (n + 1) * most ≡ n * most + 1 * most = add-mul n 1 most in
     let k : (n + 1) * muls ≡ n * muls + 1 * muls = add-mul n 1 muls in
     adds_is (omega arith) (omega arith) (adds_trans p q)
-
-pub up_once : {a b c : Circuit} (n count most muls : ℕ) → n < count → Adds a b (n * most) muls → AddsUpTo b c most → AddsUpTo a c (count * most)
-up_once n count most muls l p q =
-    let m : (n + 1) * most ≡ n * most + 1 * most = add-mul n 1 most in
-    let r : (n + 1) * most ≤ count * most = mul-le-mul_right most (let s : n + 1 ≤ count = omega arith in s) in
-    up_trans (count * most) (omega arith) p q

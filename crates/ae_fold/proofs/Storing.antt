@@ -1,21 +1,20 @@
 -- A netlist that grows by cells of which some are memories; and words that come later, from registers or from a ring.
-use Rattle.std.proofs.Common.{ℕ, ◌≡◌, ◌+◌, ◌-◌, ◌*◌, ◌%◌, ◌^◌, ◌<◌, ◌≤◌, false, List, ◌∷◌, [], length, Option, Some, None, slice_get, arith, ap, ◌∙◌, subst, rules}
+use Rattle.std.proofs.Common.{ℕ, ◌≡◌, ◌+◌, ◌-◌, ◌*◌, ◌%◌, ◌^◌, ◌<◌, ◌≤◌, List, ◌∷◌, [], length, Option, Some, None, slice_get, arith, ap, ◌∙◌, subst}
 use Rattle.std.proofs.lemmas.Option.{slice_get_within}
-use Rattle.std.specs.Prelude.{nat_lt}
-use Rattle.std.proofs.Math.Nat.{add-mul, mul-le-mul_right}
+use Rattle.std.proofs.Math.Nat.{add-mul}
 use Rattle.ae_word.specs.declared.op.WordOp.TheVariants.{Add}
 use Rattle.ae_netlist.specs.declared.cell.NetId.{NetId}
 use Rattle.ae_netlist.specs.declared.cell.SizedCell.{SizedCell}
 use Rattle.ae_netlist.specs.Circuit.{Circuit, Extends}
 use Rattle.ae_netlist.specs.Runs.{Clock, word_at, HasWords}
 use Rattle.ae_netlist.proofs.Growing.{extends_trans, net_later}
-use Rattle.ae_clocked.specs.Signals.{Adds, Connects, IsConstant, IsLater, IsNextOf, IsResult}
+use Rattle.ae_gates.specs.Cells.{Adds, IsConstant, IsResult}
+use Rattle.ae_clocked.specs.Signals.{Connects, IsLater, IsNextOf}
 use Rattle.ae_clocked.specs.Delays.{IsLate}
-use Rattle.ae_clocked.specs.Rings.{AddsMemories, IsLook, IsStore, rings}
-use Rattle.ae_clocked.proofs.Adding.{grows_trans}
+use Rattle.ae_clocked.specs.Rings.{AddsMemories, IsLook, IsStore}
+use Rattle.ae_gates.proofs.Adding.{grows_trans}
 use Rattle.ae_clocked.proofs.RingLaw.{look_later, register_later}
 use Rattle.ae_fold.specs.declared.feedback.RingCounter.{RingCounter}
-use Rattle.ae_fold.specs.Folding.{AddsUpTo}
 use Rattle.ae_fold.specs.Feedback.{AddsStores, MayPlace, TurnsAlways}
 
 -- ---- as a netlist grows
@@ -44,13 +43,6 @@ stores_is l e i p = record {
   memories = omega (arith, p.memories);
   whole = p.whole;
 }
-
-pub stores_up : {a b : Circuit} {most muls stores : ℕ} (bound : ℕ) → most ≤ bound → AddsStores a b most muls stores → AddsUpTo a b bound
-stores_up bound l h = record { grows = h.grows; cells = omega (arith, h.cells) }
-
-pub stores_up_trans : {a b c : Circuit} {m n muls stores : ℕ} (bound : ℕ) → m + n ≤ bound → AddsStores a b m muls stores → AddsUpTo b c n
-    → AddsUpTo a c bound
-stores_up_trans bound l p q = record { grows = grows_trans p.grows q.grows; cells = omega (arith, p.cells, q.cells) }
 
 -- a register that was added after a netlist may be connected
 pub stores_connect : {base old new : Circuit} {r next most muls stores : ℕ} → AddsStores base old most muls stores → length base.cells ≤ r
@@ -83,13 +75,6 @@ stores_once n most muls own stores e p q =
     let j : (n + 1) * stores ≡ n * stores + 1 * stores = add-mul n 1 stores in
     stores_is (omega arith) (omega arith) (omega arith) (stores_trans p q)
 
-pub stores_up_once : {a b c : Circuit} (n count most muls stores : ℕ) → n < count → AddsStores a b (n * most) muls stores → AddsUpTo b c most
-    → AddsUpTo a c (count * most)
-stores_up_once n count most muls stores l p q =
-    let m : (n + 1) * most ≡ n * most + 1 * most = add-mul n 1 most in
-    let r : (n + 1) * most ≤ count * most = mul-le-mul_right most (let s : n + 1 ≤ count = omega arith in s) in
-    stores_up_trans (count * most) (omega arith) p q
-
 -- ---- counters of places
 
 pub may_place_grows : (a b : List SizedCell) (reach : ℕ) (ring : Option RingCounter) → Extends a b → MayPlace a reach ring → MayPlace b reach ring
@@ -115,10 +100,3 @@ ring_later run start bits k delay memory counter back place word y x store count
     (λ t l. added t l ∙ ap (λ b. (word_at run t counter.0 + b) % 2 ^ bits) (constant t l)) sum (omega arith) in
     let more : delay - 1 + 1 ≡ delay = omega arith in
     subst (λ d. IsLater run start y.0 x.0 d) more (register_later run word.0 y.0 x.0 (delay - 1) start early next)
-
--- a word that waits so long may wait in a memory
-pub rings_some : (delay : ℕ) → 8 ≤ delay → 1 ≤ rings (delay + 1)
-rings_some delay l =
-    let far : 8 ≤ delay + 1 = omega arith in
-    let late : nat_lt (delay + 1) 8 ≡ false = search rules in
-    rw late (omega arith)

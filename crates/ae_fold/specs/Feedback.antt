@@ -5,7 +5,7 @@ use Rattle.ae_netlist.specs.declared.cell.SizedCell.{SizedCell}
 use Rattle.ae_netlist.specs.Circuit.{Circuit, IsNet}
 use Rattle.ae_netlist.specs.Counts.{AreWhole, count_of, is_memory, is_mul}
 use Rattle.ae_netlist.specs.Runs.{Clock, word_at, HasWords, InEveryResetRun}
-use Rattle.ae_clocked.specs.Signals.{Grows}
+use Rattle.ae_gates.specs.Cells.{Grows}
 use Rattle.ae_ops.specs.Folds.{combine}
 use Rattle.ae_fold.specs.declared.feedback.RingCounter.{RingCounter}
 

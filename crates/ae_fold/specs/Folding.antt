@@ -4,9 +4,7 @@ use Rattle.ae_word.specs.declared.op.WordOp.{WordOp}
 use Rattle.ae_word.specs.declared.op.WordOp.TheVariants.{Add}
 use Rattle.ae_word.specs.AtomTree.{WordKind}
 use Rattle.ae_word.specs.WordTable.{op_for}
-use Rattle.ae_netlist.specs.Circuit.{Circuit}
 use Rattle.ae_netlist.specs.Counts.{is_product}
-use Rattle.ae_clocked.specs.Signals.{Grows}
 use Rattle.ae_ops.specs.Folds.{IsFold, fold_to}
 use Rattle.ae_fold.specs.declared.words.WordFold.{WordFold}
 
@@ -42,8 +40,3 @@ pub record AreFolds (folds : List WordFold) : Type 0 where
   pub low : (j : ℕ) (f : WordFold) → slice_get folds j ≡ Some f → 1 ≤ f.width
   pub high : (j : ℕ) (f : WordFold) → slice_get folds j ≡ Some f → f.width ≤ 64
   pub same : (j : ℕ) (f : WordFold) → slice_get folds j ≡ Some f → product_of f.op ≡ products_in folds
-
--- a netlist that has grown by at most so many cells
-pub record AddsUpTo (old new : Circuit) (most : ℕ) : Type 0 where
-  pub grows : Grows old new
-  pub cells : length new.cells ≤ length old.cells + most

@@ -3,18 +3,22 @@
 ghost use Rattle.std.specs.Prelude.{ℕ, ◌+◌, ◌-◌, ◌%◌, ◌^◌, ◌≤◌, length, IfOk, OnOk};
 ghost use Rattle.ae_netlist.specs.Circuit.{IsNet};
 ghost use Rattle.ae_netlist.specs.Runs.{HasWords, InEveryResetRun, InEveryRun, InEveryRunFrom};
-ghost use Rattle.ae_clocked.specs.Signals.{Adds, IsFullAt, IsLater};
+ghost use Rattle.ae_netlist.specs.Room.{HasRoom};
+ghost use Rattle.ae_gates.specs.Cells.{Adds};
+ghost use Rattle.ae_clocked.specs.Signals.{IsLater};
 ghost use Rattle.ae_clocked.specs.Delays.{IsLate};
 ghost use Rattle.ae_clocked.specs.Rings.{AddsMemories, rings};
 ghost use Rattle.ae_ops.specs.Folds.{IsFold};
-ghost use Rattle.ae_fold.specs.Folding.{AddsUpTo, product_of};
+ghost use Rattle.ae_fold.specs.Folding.{product_of};
 ghost use Rattle.ae_fold.specs.Feedback.{AddsStores, Continues, IsJoined, IsPlace, MayPlace, TurnsAlways, TurnsIn};
 
 use crate::words::WordFold;
-use ae_clocked::{choose, close, constant, delayed, look, register, ring_depth, store, sum};
-use ae_netlist::{NetFault, NetId, Netlist};
+use ae_clocked::{close, delayed, look, register, ring_depth, store};
+use ae_gates::{choose, constant, sum};
+use ae_netlist::{NetId, Netlist};
 use ae_ops::combined;
 use ae_word::Width;
+use std::alloc::AllocError;
 
 /// A counter of the clocks after reset that goes round with so many bits: the places of rings, memories that are written in
 /// every clock.
@@ -25,10 +29,10 @@ pub struct RingCounter {
 }
 
 /// A net that is some clocks late.
-fn trail(nl: &mut Netlist, x: NetId, width: Width, count: u32) -> Result<NetId, NetFault>
-    requires { IsNet nl.old.cells x.0 width }
-    ensures adds { Adds nl.old nl.new count 0 }
-    ensures full { IsFullAt result nl.new }
+fn trail(nl: &mut Netlist, x: NetId, width: Width, count: u32) -> Result<NetId, AllocError>
+    requires net { IsNet nl.old.cells x.0 width }
+    requires room { HasRoom nl.old count }
+    ensures adds { OnOk result (Adds nl.old nl.new count 0) }
     ensures net { IfOk result (λ y. IsNet nl.new.cells y.0 width) }
     ensures words { IfOk result (λ y. InEveryRunFrom (length nl.old.cells) nl.new.cells (λ run. IsLate run y.0 x.0 count)) }
 {
@@ -47,12 +51,12 @@ fn ringed(
     x: NetId,
     width: Width,
     delay: u32,
-) -> Result<NetId, NetFault>
+) -> Result<NetId, AllocError>
     requires net { IsNet nl.old.cells x.0 width }
     requires late { 2 ≤ delay }
     requires place { IsPlace nl.old.cells delay at }
-    ensures adds { AddsMemories nl.old nl.new 6 1 }
-    ensures full { IsFullAt result nl.new }
+    requires room { HasRoom nl.old 6 }
+    ensures adds { OnOk result (AddsMemories nl.old nl.new 6 1) }
     ensures net { IfOk result (λ y. IsNet nl.new.cells y.0 width) }
     ensures words { IfOk result (λ y. InEveryRunFrom (length nl.old.cells) nl.new.cells (λ run. (start : ℕ) → HasWords run start at.net.0 (λ c. c % 2 ^ at.bits) → IsLater run start y.0 x.0 delay)) }
 {
@@ -74,11 +78,11 @@ fn waiting(
     x: NetId,
     width: Width,
     delay: u32,
-) -> Result<NetId, NetFault>
+) -> Result<NetId, AllocError>
     requires net { IsNet nl.old.cells x.0 width }
     requires place { MayPlace nl.old.cells delay ring }
-    ensures adds { AddsMemories nl.old nl.new delay (rings (delay + 1)) }
-    ensures full { IsFullAt result nl.new }
+    requires room { HasRoom nl.old delay }
+    ensures adds { OnOk result (AddsMemories nl.old nl.new delay (rings (delay + 1))) }
     ensures net { IfOk result (λ y. IsNet nl.new.cells y.0 width) }
     ensures words { IfOk result (λ y. InEveryRunFrom (length nl.old.cells) nl.new.cells (λ run. (start : ℕ) → TurnsIn run start ring → IsLater run start y.0 x.0 delay)) }
 {
@@ -100,8 +104,7 @@ pub struct Loop {
 }
 
 /// A register that takes the word of `x` where `first` is 1, and else its own of `inner` clocks before combined with
-/// that of `x`; and the net that has its word of `inner - 1` clocks before, which may wait in a ring. `Full` comes only where the netlist has
-/// `limit` cells as the call ends; after a refusal, here and below, it may hold further cells.
+/// that of `x`; and the net that has its word of `inner - 1` clocks before, which may wait in a ring.
 pub fn accumulate(
     nl: &mut Netlist,
     ring: Option<RingCounter>,
@@ -109,7 +112,7 @@ pub fn accumulate(
     x: NetId,
     first: NetId,
     inner: u32,
-) -> Result<Loop, NetFault>
+) -> Result<Loop, AllocError>
     requires low { 1 ≤ fold.width }
     requires high { fold.width ≤ 64 }
     requires folds { IsFold fold.op }
@@ -117,9 +120,8 @@ pub fn accumulate(
     requires first { IsNet nl.old.cells first.0 1 }
     requires lasting { 1 ≤ inner }
     requires place { MayPlace nl.old.cells (inner - 1) ring }
+    requires room { HasRoom nl.old (inner + 9) }
     ensures adds { OnOk result (AddsStores nl.old nl.new (inner + 9) (product_of fold.op) (rings inner)) }
-    ensures up { AddsUpTo nl.old nl.new (inner + 9) }
-    ensures full { IsFullAt result nl.new }
     ensures net { IfOk result (λ y. IsNet nl.new.cells y.word.0 fold.width) }
     ensures back { IfOk result (λ y. IsNet nl.new.cells y.back.0 fold.width) }
     ensures words { IfOk result (λ y. (rst : ℕ) → TurnsAlways nl.old.cells rst ring → InEveryResetRun nl.new.cells rst (λ run start. Continues run start y.word.0 fold.op fold.width x.0 first.0 y.word.0 (inner - 1))) }
@@ -141,16 +143,15 @@ pub fn follow(
     x: NetId,
     first: NetId,
     back: NetId,
-) -> Result<NetId, NetFault>
+) -> Result<NetId, AllocError>
     requires low { 1 ≤ fold.width }
     requires high { fold.width ≤ 64 }
     requires folds { IsFold fold.op }
     requires net { IsNet nl.old.cells x.0 fold.width }
     requires first { IsNet nl.old.cells first.0 1 }
     requires back { IsNet nl.old.cells back.0 fold.width }
+    requires room { HasRoom nl.old 10 }
     ensures adds { OnOk result (Adds nl.old nl.new 10 (product_of fold.op)) }
-    ensures up { AddsUpTo nl.old nl.new 10 }
-    ensures full { IsFullAt result nl.new }
     ensures net { IfOk result (λ z. IsNet nl.new.cells z.0 fold.width) }
     ensures words { IfOk result (λ z. InEveryRun nl.new.cells (λ run. (start y d : ℕ) → IsLater run start back.0 y d → Continues run start z.0 fold.op fold.width x.0 first.0 y d)) }
 {
@@ -162,15 +163,14 @@ pub fn follow(
 }
 
 /// A register of two words combined: it has, in each clock, what they had in the clock before.
-pub fn joined(nl: &mut Netlist, fold: WordFold, a: NetId, b: NetId) -> Result<NetId, NetFault>
+pub fn joined(nl: &mut Netlist, fold: WordFold, a: NetId, b: NetId) -> Result<NetId, AllocError>
     requires low { 1 ≤ fold.width }
     requires high { fold.width ≤ 64 }
     requires folds { IsFold fold.op }
     requires left { IsNet nl.old.cells a.0 fold.width }
     requires right { IsNet nl.old.cells b.0 fold.width }
+    requires room { HasRoom nl.old 9 }
     ensures adds { OnOk result (Adds nl.old nl.new 9 (product_of fold.op)) }
-    ensures up { AddsUpTo nl.old nl.new 9 }
-    ensures full { IsFullAt result nl.new }
     ensures net { IfOk result (λ y. IsNet nl.new.cells y.0 fold.width) }
     ensures words { IfOk result (λ y. InEveryRun nl.new.cells (λ run. IsJoined run y.0 fold.op fold.width a.0 b.0)) }
 {

@@ -2,16 +2,16 @@
 
 ghost use Rattle.std.specs.Prelude.{◌≡◌, ℕ, ◌+◌, ◌-◌, ◌*◌, ◌≤◌, ◌++◌, length, map, slice_get, Some, IfOk, OnOk};
 ghost use Rattle.ae_netlist.specs.Circuit.{IsNet};
-ghost use Rattle.ae_clocked.specs.Signals.{IsFullAt};
+ghost use Rattle.ae_netlist.specs.Room.{HasRoom};
 ghost use Rattle.ae_clocked.specs.Rings.{rings};
 ghost use Rattle.ae_fold.specs.declared.feedback.Loop.{Loop as Ring};
 ghost use Rattle.ae_fold.specs.Feedback.{AddsStores, MayPlace, TurnsAlways};
-ghost use Rattle.ae_fold.specs.Folding.{AddsUpTo, AreFolds, fold_at, products_in};
+ghost use Rattle.ae_fold.specs.Folding.{AreFolds, fold_at, products_in};
 ghost use Rattle.ae_fold.specs.Rows.{AreFoldNets, AreLoops};
 
 use crate::feedback::{Loop, RingCounter, accumulate};
 use crate::words::WordFold;
-use ae_netlist::{NetFault, NetId, Netlist};
+use ae_netlist::{NetId, Netlist};
 use std::alloc::{AllocError, Global};
 
 /// A copy of the nets; an error only for want of memory.
@@ -35,16 +35,15 @@ pub fn accumulate_all(
     from: usize,
     first: NetId,
     inner: u32,
-) -> Result<Vec<Loop>, NetFault>
+) -> Result<Vec<Loop>, AllocError>
     requires folds { AreFolds folds.now }
     requires nets { AreFoldNets nl.old.cells folds.now nets.now }
     requires first { IsNet nl.old.cells first.0 1 }
     requires lasting { 1 ≤ inner }
     requires within { from ≤ length nets.now }
     requires place { MayPlace nl.old.cells (inner - 1) ring }
+    requires room { HasRoom nl.old ((length nets.now - from) * (inner + 9)) }
     ensures adds { OnOk result (AddsStores nl.old nl.new ((length nets.now - from) * (inner + 9)) ((length nets.now - from) * products_in folds.now) ((length nets.now - from) * rings inner)) }
-    ensures up { AddsUpTo nl.old nl.new ((length nets.now - from) * (inner + 9)) }
-    ensures full { IsFullAt result nl.new }
     ensures long { IfOk result (λ loops. length loops.items ≡ length nets.now - from) }
     ensures backs { IfOk result (λ loops. (p : ℕ) (one : Ring) → slice_get loops.items p ≡ Some one → IsNet nl.new.cells one.back.0 (fold_at folds.now (from + p)).width) }
     ensures loops { IfOk result (λ loops. (rst : ℕ) → TurnsAlways nl.old.cells rst ring → AreLoops nl.new.cells rst folds.now nets.now from first.0 inner loops.items) }

@@ -1,9 +1,10 @@
 // The mark of the first slot of each block, and the counter of where loops wait.
 
-ghost use Rattle.std.specs.Prelude.{◌+◌, ◌-◌, ◌*◌, ◌<◌, ◌≤◌, IfOk};
+ghost use Rattle.std.specs.Prelude.{◌+◌, ◌-◌, ◌*◌, ◌<◌, ◌≤◌, IfOk, OnOk};
 ghost use Rattle.ae_netlist.specs.Circuit.{IsNet};
 ghost use Rattle.ae_netlist.specs.Runs.{InEveryResetRun};
-ghost use Rattle.ae_clocked.specs.Signals.{Adds, IsFullAt};
+ghost use Rattle.ae_netlist.specs.Room.{HasRoom};
+ghost use Rattle.ae_gates.specs.Cells.{Adds};
 ghost use Rattle.ae_clocked.specs.Phases.{Belongs, KeepsCounters};
 ghost use Rattle.ae_fold.specs.Feedback.{Leads, MayPlace, TurnsAlways};
 ghost use Rattle.ae_fold.specs.Rows.{IsPlan, Marks, wait_of};
@@ -11,7 +12,8 @@ ghost use Rattle.ae_fold.specs.Rows.{IsPlan, Marks, wait_of};
 use crate::feedback::RingCounter;
 use crate::plan::{Plan, levels};
 use ae_clocked::{Clocks, ring_depth};
-use ae_netlist::{NetFault, NetId, Netlist};
+use ae_netlist::{NetId, Netlist};
+use std::alloc::AllocError;
 
 /// The net that marks the first slot of each block, and the counter of rings for what waits in loops, where that may be long
 /// enough for one.
@@ -30,15 +32,15 @@ fn lead(
     delay: u32,
     inner: u32,
     ahead: u32,
-) -> Result<NetId, NetFault>
+) -> Result<NetId, AllocError>
     requires belongs { Belongs clocks.old nl.old.cells }
     requires low { inner < period }
     requires high { period ≤ 4096 }
     requires short { delay ≤ 4096 }
-    ensures belongs { Belongs clocks.new nl.new.cells }
-    ensures keeps { KeepsCounters clocks.old clocks.new }
-    ensures adds { Adds nl.old nl.new 21 0 }
-    ensures full { IsFullAt result nl.new }
+    requires room { HasRoom nl.old 21 }
+    ensures belongs { OnOk result (Belongs clocks.new nl.new.cells) }
+    ensures keeps { OnOk result (KeepsCounters clocks.old clocks.new) }
+    ensures adds { OnOk result (Adds nl.old nl.new 21 0) }
     ensures net { IfOk result (λ y. IsNet nl.new.cells y.0 1) }
     ensures words { IfOk result (λ y. InEveryResetRun nl.new.cells clocks.old.rst (λ run start. Leads run start y.0 period (arrival + delay) inner)) }
 {
@@ -49,13 +51,17 @@ fn lead(
 }
 
 /// The counter of a ring that reaches so far back, where that is 8 clocks or more.
-fn place(nl: &mut Netlist, clocks: &mut Clocks, reach: u32) -> Result<Option<RingCounter>, NetFault>
+fn place(
+    nl: &mut Netlist,
+    clocks: &mut Clocks,
+    reach: u32,
+) -> Result<Option<RingCounter>, AllocError>
     requires belongs { Belongs clocks.old nl.old.cells }
     requires most { reach ≤ 4096 }
-    ensures belongs { Belongs clocks.new nl.new.cells }
-    ensures keeps { KeepsCounters clocks.old clocks.new }
-    ensures adds { Adds nl.old nl.new 12 0 }
-    ensures full { IsFullAt result nl.new }
+    requires room { HasRoom nl.old 12 }
+    ensures belongs { OnOk result (Belongs clocks.new nl.new.cells) }
+    ensures keeps { OnOk result (KeepsCounters clocks.old clocks.new) }
+    ensures adds { OnOk result (Adds nl.old nl.new 12 0) }
     ensures place { IfOk result (λ ring. MayPlace nl.new.cells reach ring) }
     ensures turns { IfOk result (λ ring. TurnsAlways nl.new.cells clocks.old.rst ring) }
 {
@@ -76,13 +82,13 @@ pub fn mark(
     plan: Plan,
     arrival: u32,
     ahead: u32,
-) -> Result<Option<SlotMark>, NetFault>
+) -> Result<Option<SlotMark>, AllocError>
     requires plan { IsPlan plan }
     requires belongs { Belongs clocks.old nl.old.cells }
-    ensures belongs { Belongs clocks.new nl.new.cells }
-    ensures keeps { KeepsCounters clocks.old clocks.new }
-    ensures adds { Adds nl.old nl.new (wait_of plan.slots * 33) 0 }
-    ensures full { IsFullAt result nl.new }
+    requires room { HasRoom nl.old (wait_of plan.slots * 33) }
+    ensures belongs { OnOk result (Belongs clocks.new nl.new.cells) }
+    ensures keeps { OnOk result (KeepsCounters clocks.old clocks.new) }
+    ensures adds { OnOk result (Adds nl.old nl.new (wait_of plan.slots * 33) 0) }
     ensures marks { IfOk result (λ found. Marks nl.new.cells clocks.old.rst plan.slots plan.period (arrival + plan.levels) plan.inner found) }
 {
     if plan.slots > 1 {

@@ -2,19 +2,20 @@
 
 ghost use Rattle.std.specs.Prelude.{◌≡◌, ◌+◌, ◌-◌, ◌*◌, ◌%◌, ◌<◌, ◌≤◌, ℕ, length, slice_get, Some, IfOk, IfSome, OnOk};
 ghost use Rattle.ae_netlist.specs.Circuit.{IsNet};
-ghost use Rattle.ae_clocked.specs.Signals.{Adds, IsFullAt};
+ghost use Rattle.ae_netlist.specs.Room.{HasRoom};
+ghost use Rattle.ae_gates.specs.Cells.{Adds};
 ghost use Rattle.ae_clocked.specs.Rings.{rings};
 ghost use Rattle.ae_fold.specs.declared.feedback.Loop.{Loop as Ring};
 ghost use Rattle.ae_fold.specs.Feedback.{AddsStores, MayPlace, TurnsAlways};
-ghost use Rattle.ae_fold.specs.Folding.{AddsUpTo, AreFolds, fold_at, products_in};
+ghost use Rattle.ae_fold.specs.Folding.{AreFolds, fold_at, products_in};
 ghost use Rattle.ae_fold.specs.Rows.{AreEnds, AreFoldNets, AreFollowers, AreLooped, marks_in};
 
 use crate::feedback::{Loop, follow};
 use crate::loops::{accumulate_all, append_loops};
 use crate::marks::SlotMark;
 use crate::words::WordFold;
-use ae_netlist::{NetFault, NetId, Netlist};
-use std::alloc::Global;
+use ae_netlist::{NetId, Netlist};
+use std::alloc::{AllocError, Global};
 
 /// The nets before a place, behind the loops over the last lane.
 fn followers(
@@ -26,7 +27,7 @@ fn followers(
     stride: usize,
     first: NetId,
     loops: &[Loop],
-) -> Result<Vec<NetId>, NetFault>
+) -> Result<Vec<NetId>, AllocError>
     requires folds { AreFolds folds.now }
     requires nets { AreFoldNets nl.old.cells folds.now nets.now }
     requires first { IsNet nl.old.cells first.0 1 }
@@ -36,9 +37,8 @@ fn followers(
     requires whole { stride % length folds.now ≡ 0 }
     requires backs { (p : ℕ) (one : Ring) → slice_get loops.now p ≡ Some one → IsNet nl.old.cells one.back.0 (fold_at folds.now (from + p)).width }
     requires long { length loops.now ≡ stride }
+    requires room { HasRoom nl.old (from * 10) }
     ensures adds { OnOk result (Adds nl.old nl.new (from * 10) (from * products_in folds.now)) }
-    ensures up { AddsUpTo nl.old nl.new (from * 10) }
-    ensures full { IsFullAt result nl.new }
     ensures long { IfOk result (λ outs. length outs.items ≡ from) }
     ensures follow { IfOk result (λ outs. AreFollowers nl.new.cells folds.now nets.now stride first.0 loops.now outs.items) }
 {
@@ -61,7 +61,7 @@ fn looped(
     stride: usize,
     mark: SlotMark,
     inner: u32,
-) -> Result<Vec<NetId>, NetFault>
+) -> Result<Vec<NetId>, AllocError>
     requires folds { AreFolds folds.now }
     requires nets { AreFoldNets nl.old.cells folds.now nets.now }
     requires first { IsNet nl.old.cells mark.first.0 1 }
@@ -71,9 +71,8 @@ fn looped(
     requires lanes { from % stride ≡ 0 }
     requires placed { 1 ≤ stride }
     requires whole { stride % length folds.now ≡ 0 }
+    requires room { HasRoom nl.old (stride * (inner + 9) + from * 10) }
     ensures adds { OnOk result (AddsStores nl.old nl.new (stride * (inner + 9) + from * 10) (length nets.now * products_in folds.now) (stride * rings inner)) }
-    ensures up { AddsUpTo nl.old nl.new (stride * (inner + 9) + from * 10) }
-    ensures full { IsFullAt result nl.new }
     ensures looped { IfOk result (λ outs. (rst : ℕ) → TurnsAlways nl.old.cells rst mark.ring → AreLooped nl.new.cells rst folds.now nets.now from stride mark.first.0 inner outs.items) }
 {
     let loops = accumulate_all(alloc, nl, mark.ring, folds, nets, from, mark.first, inner)?;
@@ -93,7 +92,7 @@ pub fn over_slots(
     stride: usize,
     mark: Option<SlotMark>,
     inner: u32,
-) -> Result<Vec<NetId>, NetFault>
+) -> Result<Vec<NetId>, AllocError>
     requires folds { AreFolds folds.now }
     requires nets { AreFoldNets nl.old.cells folds.now nets.items }
     requires mark { IfSome mark (λ m. IsNet nl.old.cells m.first.0 1) }
@@ -103,13 +102,15 @@ pub fn over_slots(
     requires lanes { from % stride ≡ 0 }
     requires placed { 1 ≤ stride }
     requires whole { stride % length folds.now ≡ 0 }
+    requires room { HasRoom nl.old (marks_in mark * (stride * (inner + 9) + from * 10)) }
     ensures adds { OnOk result (AddsStores nl.old nl.new (marks_in mark * (stride * (inner + 9) + from * 10)) (marks_in mark * (length nets.items * products_in folds.now)) (marks_in mark * (stride * rings inner))) }
-    ensures up { AddsUpTo nl.old nl.new (marks_in mark * (stride * (inner + 9) + from * 10)) }
-    ensures full { IsFullAt result nl.new }
     ensures ends { IfOk result (λ outs. (rst : ℕ) → IfSome mark (λ m. TurnsAlways nl.old.cells rst m.ring) → AreEnds nl.new.cells rst folds.now nets.items from stride inner mark outs.items) }
 {
     match mark {
         None => Ok(nets),
-        Some(found) => looped(alloc, nl, folds, &nets, from, stride, found, inner),
+        Some(found) => {
+            let outs = looped(alloc, nl, folds, &nets, from, stride, found, inner)?;
+            Ok(outs)
+        }
     }
 }

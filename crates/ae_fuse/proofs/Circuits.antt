@@ -29,7 +29,7 @@ use Rattle.ae_tidy.specs.Tidied.{IsTidied}
 use Rattle.ae_ports.specs.CircuitFor.{IsCircuitFor}
 use Rattle.ae_ports.specs.Ports.{columns_in, output_ports, streams_of}
 use Rattle.ae_ports.proofs.Columns.{map_map}
-use Rattle.ae_lower.specs.Growth.{Adds, GrowsBy}
+use Rattle.ae_lower.specs.Growth.{AddsMulsAndMemories, GrowsBy}
 use Rattle.ae_lower.specs.PortNets.{AddsOutputs, bundles_from}
 use Rattle.ae_lower.specs.Ported.{HasBegun, IsPorted}
 use Rattle.ae_lower.proofs.Blocks.{program_instance, result_at}
@@ -103,7 +103,7 @@ module _ (f : FusedView) (whole : IsWhole f) where
       omega (arith, low, whole-latency))
 
   module _ (a b c : Circuit) (bundles : List (List NetId)) (begun : HasBegun ins a) (grown : GrowsBy a b (sum_by (result_load f.latency) (moves_in f)))
-      (adds : Adds a b 0 (sum_by (result_mems f.latency) (moves_in f)))
+      (adds : AddsMulsAndMemories a b 0 (sum_by (result_mems f.latency) (moves_in f)))
       (moved : AreLateResults b.cells 0 f.latency (moves_in f) (length f.results) (bundles_from 1 (streams_of ins)) bundles)
       (shown : AddsOutputs b c (output_ports ss) (all_nets bundles)) (formed : IsFormed c.cells) (have : HaveNets c.cells c.outlets) where
     made : IsPorted ins ss (costs_in f) c × (map (λ o. o.net) c.outlets ≡ all_nets bundles)

@@ -9,8 +9,8 @@ use Rattle.ae_netlist.specs.Circuit.{Circuit, Extends}
 use Rattle.ae_netlist.specs.Counts.{AreWhole, count_of, is_memory, is_mul}
 use Rattle.ae_netlist.proofs.Gets.{get_push_cases}
 use Rattle.ae_netlist.proofs.Growing.{extends_trans}
-use Rattle.ae_clocked.specs.Signals.{Grows}
-use Rattle.ae_clocked.proofs.Adding.{grows_trans}
+use Rattle.ae_gates.specs.Cells.{Grows}
+use Rattle.ae_gates.proofs.Adding.{grows_trans}
 use Rattle.ae_ops.specs.Waves.{AreLate, AreNets, wave_of}
 use Rattle.ae_ops.specs.Blocks.{BlockLaw, KeepsLaw, stream_of, stream_widths}
 use Rattle.ae_moves.specs.Rings.{rings}
@@ -18,7 +18,7 @@ use Rattle.ae_moves.specs.Origins.{IsMove, Move, move_latency}
 use Rattle.ae_moves.proofs.Lists.{sum_next}
 use Rattle.ae_gather.specs.Gathers.{gather_part, origin_word}
 use Rattle.ae_ports.specs.Ports.{streams_of}
-use Rattle.ae_lower.specs.Growth.{Adds, GrowsBy}
+use Rattle.ae_lower.specs.Growth.{AddsMulsAndMemories, GrowsBy}
 use Rattle.ae_lower.specs.Parts.{IsWithin, plain_part}
 use Rattle.ae_lower.proofs.Delaying.{nets_grow}
 use Rattle.ae_lower.proofs.Following.{delayed}
@@ -35,13 +35,19 @@ pub within_time : (m : Move) → IsMove m → IsWithin (time m.out) (stream_of m
 within_time m h = record { clocks = λ e w at. (slot_in m.out e w h.out at).0 }
 
 -- the cells of a move and of its delay
+pub delay_small : (cells : List SizedCell) (m : Move) (whole : ℕ) (nets : List NetId) → AreNets cells (stream_widths (stream_of m.out)) nets
+    → (gather_part m).most_cells + 16 * ((whole - move_latency m) * length nets) ≤ 16 * result_load whole m
+delay_small cells m whole nets there =
+    let long : length nets ≡ columns_of m.out = columns_long cells m.out nets there in
+    let delay : (whole - move_latency m) * length nets ≡ (whole - move_latency m) * columns_of m.out = ap (λ n. (whole - move_latency m) * n) long in
+    omega (arith, delay)
+
 pub result_grows : (old mid new : Circuit) (m : Move) (whole : ℕ) (nets : List NetId) → move_latency m ≤ whole
     → AreNets mid.cells (stream_widths (stream_of m.out)) nets → Grows old mid → length mid.cells ≤ length old.cells + (gather_part m).most_cells
     → GrowsBy mid new ((whole - move_latency m) * length nets) → GrowsBy old new (result_load whole m)
 result_grows old mid new m whole nets late there grows few more =
-    let long : length nets ≡ columns_of m.out = columns_long mid.cells m.out nets there in
-    let delay : (whole - move_latency m) * length nets ≡ (whole - move_latency m) * columns_of m.out = ap (λ n. (whole - move_latency m) * n) long in
-    record { grows = grows_trans grows more.grows; cells = (let c = more.cells in omega (arith, few, c, delay)) }
+    let fits = delay_small mid.cells m whole nets there in
+    record { grows = grows_trans grows more.grows; cells = (let c = more.cells in omega (arith, few, c, fits)) }
 
 pub part_small : (m : Move) (whole : ℕ) → (gather_part m).most_cells ≤ 16 * result_load whole m
 part_small m whole = omega arith
@@ -49,7 +55,7 @@ part_small m whole = omega arith
 pub result_adds : (old mid new : Circuit) (m : Move) (whole : ℕ) (nets : List NetId) → AreNets mid.cells (stream_widths (stream_of m.out)) nets
     → count_of is_mul mid.cells ≡ count_of is_mul old.cells + 0 → count_of is_memory mid.cells ≤ count_of is_memory old.cells + (gather_part m).most_memories
     → (AreWhole old.cells → AreWhole mid.cells)
-    → Adds mid new 0 (length nets * rings (whole - move_latency m)) → Adds old new 0 (result_mems whole m)
+    → AddsMulsAndMemories mid new 0 (length nets * rings (whole - move_latency m)) → AddsMulsAndMemories old new 0 (result_mems whole m)
 result_adds old mid new m whole nets there muls memories sound more =
     let delay : length nets * rings (whole - move_latency m) ≡ columns_of m.out * rings (whole - move_latency m) = ap (λ n. n * rings (whole - move_latency m))
     (columns_long mid.cells m.out nets there) in

@@ -1,9 +1,10 @@
 // The circuit of a fused program.
 
-ghost use Rattle.std.specs.Prelude.{◌≡◌, ◌<◌, ◌≤◌, ◌+◌, ◌*◌, ◌-◌, [], ℕ, List, IfOk, OnOk, Some, flat_map, length, map, slice_get, sum_by};
+ghost use Rattle.std.specs.Prelude.{◌≡◌, ◌<◌, ◌≤◌, ◌*◌, ◌-◌, [], ℕ, List, IfOk, OnOk, Some, flat_map, length, map, slice_get, sum_by};
 ghost use Rattle.ae_sttype.specs.StTree.{st_tree};
 ghost use Rattle.ae_sttype.specs.Size.{IsInSize};
 ghost use Rattle.ae_netlist.specs.declared.cell.NetId.{NetId as Net};
+ghost use Rattle.ae_netlist.specs.Room.{HasRoom};
 ghost use Rattle.ae_clocked.specs.Phases.{Belongs, KeepsCounters};
 ghost use Rattle.ae_ops.specs.Waves.{AreNets};
 ghost use Rattle.ae_ops.specs.Blocks.{AreBundles, stream_widths};
@@ -12,7 +13,7 @@ ghost use Rattle.ae_gather.specs.Gathers.{IsGather, move_of};
 ghost use Rattle.ae_rewrite.specs.StProgramTree.{st_trees};
 ghost use Rattle.ae_ports.specs.Ports.{output_ports, streams_of};
 ghost use Rattle.ae_tidy.specs.Places.{AreMarks};
-ghost use Rattle.ae_lower.specs.Growth.{Adds, GrowsBy};
+ghost use Rattle.ae_lower.specs.Growth.{AddsMulsAndMemories, GrowsBy};
 ghost use Rattle.ae_lower.specs.PortNets.{AddsOutputs};
 ghost use Rattle.ae_results.specs.declared.result.FusedResult.{FusedResult as Moving};
 ghost use Rattle.ae_fuse.specs.Costing.{result_load, result_mems};
@@ -24,7 +25,7 @@ use ae_clocked::Clocks;
 use ae_gather::Gather;
 use ae_lower::{add_outputs, later};
 use ae_moves::Origin;
-use ae_netlist::{Netlist, in_room};
+use ae_netlist::Netlist;
 use ae_ops::{Bundle, Stage};
 use ae_results::FusedResult;
 use ae_sttype::StType;
@@ -73,16 +74,16 @@ fn result_nets(
     requires latest { move_latency (move_of gather) ≤ whole }
     requires belongs { Belongs clocks.old nl.old.cells }
     requires args { AreBundles nl.old.cells (streams_of (move_of gather).ins) args.now }
-    requires room { length nl.old.cells + 16 * result_load whole (move_of gather) < nl.old.limit }
+    requires room { HasRoom nl.old (16 * result_load whole (move_of gather)) }
     ensures belongs { OnOk result (Belongs clocks.new nl.new.cells) }
     ensures keeps { OnOk result (KeepsCounters clocks.old clocks.new) }
     ensures grows { OnOk result (GrowsBy nl.old nl.new (result_load whole (move_of gather))) }
-    ensures adds { OnOk result (Adds nl.old nl.new 0 (result_mems whole (move_of gather))) }
+    ensures adds { OnOk result (AddsMulsAndMemories nl.old nl.new 0 (result_mems whole (move_of gather))) }
     ensures moved { IfOk result (λ b. IsLateResult nl.new.cells clocks.old.rst whole (move_of gather) args.now b) }
 {
     let slack = whole - gather.latency();
-    let bundle = in_room(gather.build(alloc, nl, clocks, args, 0))?;
-    let late = in_room(later(alloc, nl, clocks, &bundle, slack))?;
+    let bundle = gather.build(alloc, nl, clocks, args, 0)?;
+    let late = later(alloc, nl, clocks, &bundle, slack)?;
     Ok(late)
 }
 
@@ -109,9 +110,9 @@ pub(crate) fn all_nets(
     requires belongs { Belongs clocks.old nl.old.cells }
     requires args { AreBundles nl.old.cells (streams_of (st_trees ins.now)) args.now }
     requires few { length ins.now ≤ 8 }
-    requires room { length nl.old.cells + 16 * sum_by (result_load whole) (map (result_move (st_trees ins.now)) results.now) < nl.old.limit }
+    requires room { HasRoom nl.old (16 * sum_by (result_load whole) (map (result_move (st_trees ins.now)) results.now)) }
     ensures grows { OnOk result (GrowsBy nl.old nl.new (sum_by (result_load whole) (map (result_move (st_trees ins.now)) results.now))) }
-    ensures adds { OnOk result (Adds nl.old nl.new 0 (sum_by (result_mems whole) (map (result_move (st_trees ins.now)) results.now))) }
+    ensures adds { OnOk result (AddsMulsAndMemories nl.old nl.new 0 (sum_by (result_mems whole) (map (result_move (st_trees ins.now)) results.now))) }
     ensures moved { IfOk result (λ b. AreLateResults nl.new.cells clocks.old.rst whole (map (result_move (st_trees ins.now)) results.now) (length results.now) args.now b.bundles.items) }
     ensures marks { IfOk result (λ b. AreMarks (length nl.new.cells) (length results.now) b.marks.items) }
 {

@@ -1,6 +1,5 @@
--- The words of nets that were added, by those of their operands.
-use Rattle.std.proofs.Common.{ℕ, ◌≡◌, ◌≢◌, ◌+◌, ◌*◌, ◌%◌, ◌^◌, ◌==◌, ◌<◌, ◌≤◌, if◌then◌else◌, Bool, true, false, List, [], ◌∷◌, ◌++◌, length, arith, refl, ap, ◌∙◌, sym, subst, length-append}
-use Rattle.std.specs.List.{filter, enumerate_from}
+-- The words of gates that were added, by those of their operands.
+use Rattle.std.proofs.Common.{ℕ, ◌≡◌, ◌≢◌, ◌+◌, ◌*◌, ◌%◌, ◌^◌, ◌==◌, ◌<◌, ◌≤◌, if◌then◌else◌, Bool, true, false, cond, List, [], ◌∷◌, ◌++◌, length, arith, refl, ap, ◌∙◌, sym, length-append}
 use Rattle.std.proofs.Math.Nat.{pow-le-pow_right, mod-eq_of_lt, mul-le-mul_right, add-mul, one-mul}
 use Rattle.std.proofs.lemmas.Nat.{pow-add}
 use Rattle.ae_word.specs.WordTable.{bit, word_result, HasRange, is_signed, result_width_of}
@@ -8,53 +7,66 @@ use Rattle.ae_word.specs.declared.op.WordOp.{WordOp}
 use Rattle.ae_word.specs.declared.op.WordOp.TheVariants.{Mux}
 use Rattle.ae_netlist.specs.declared.cell.NetId.{NetId}
 use Rattle.ae_netlist.specs.declared.cell.Cell.{Cell}
-use Rattle.ae_netlist.specs.declared.cell.Cell.TheVariants.{Const, Op}
 use Rattle.ae_netlist.specs.declared.cell.SizedCell.{SizedCell}
 use Rattle.ae_netlist.specs.Circuit.{Circuit, IsNet, IsPlain, IsOperation, OperandsAre, width_of, main_operand}
-use Rattle.ae_netlist.specs.Runs.{Clock, IsRun, Carries}
+use Rattle.ae_netlist.specs.Counts.{count_of, is_input, is_memory, is_register}
+use Rattle.ae_netlist.specs.Runs.{Clock, IsRun, Carries, InEveryRunFrom}
 use Rattle.ae_netlist.proofs.Gets.{get_pushed}
-use Rattle.ae_netlist.proofs.Growing.{net_later, net_width, extends_append, extends_refl, extends_trans}
-use Rattle.ae_netlist.proofs.Carried.{const_word, op_word, carries_later, carries_trans, carries_extends}
-use Rattle.ae_runs.specs.SameRuns.{is_input_cell, is_state_cell}
-use Rattle.ae_runs.proofs.Fits.{net_fits}
-use Rattle.ae_gates.specs.Cells.{GrowsByGates, IsWord}
+use Rattle.ae_netlist.proofs.Growing.{net_later, net_width, extends_append}
+use Rattle.ae_netlist.proofs.Counting.{count_push}
+use Rattle.ae_netlist.proofs.Carried.{carries_later}
+use Rattle.ae_gates.specs.Cells.{Adds, AddsGates, GrowsByGates, IsConstant, IsResult, IsWord}
+use Rattle.ae_gates.proofs.Adding.{count_grows, grows_refl as same_grows, grows_trans as grows_on}
+use Rattle.ae_gates.proofs.Added.{back as carried_back, grows_length}
+use Rattle.ae_gates.proofs.Fits.{held_fits}
 
--- a cell that does not pass is left out
-pub left_out : (test : Cell → Bool) (k : ℕ) (cells : List SizedCell) (c : SizedCell) → test c.cell ≡ false
-    → filter (λ (x : ℕ × SizedCell). test x.1.cell) (enumerate_from k (cells ++ c ∷ [])) ≡ filter (λ (x : ℕ × SizedCell). test x.1.cell)
-    (enumerate_from k cells)
-left_out test k [] c h = rw h refl
-left_out test k (x ∷ cells) c h =
-    ap (λ ys. if test x.cell then (k, x) ∷ ys else ys) (left_out test (k + 1) cells c h)
-
--- how a netlist grows by a cell, and by more
-pub grows_push : (old new : Circuit) (c : SizedCell) → is_input_cell c.cell ≡ false → is_state_cell c.cell ≡ false
-    → new ≡ record old { cells = old.cells ++ c ∷ [] } → GrowsByGates old new
-grows_push old new c i s e = rw e (record {
-  extends = extends_append old.cells (c ∷ []);
-  limit = refl;
-  outlets = refl;
-  inputs = left_out is_input_cell 0 old.cells c i;
-  states = left_out is_state_cell 0 old.cells c s;
-})
+-- a cell that is of no kind is not counted
+uncounted_push : (kind : Cell → Bool) (cells : List SizedCell) (c : SizedCell) → kind c.cell ≡ false → count_of kind (cells ++ c ∷ []) ≡ count_of kind cells
+uncounted_push kind cells c h =
+    count_push (λ (x : SizedCell). kind x.cell) cells c ∙ (ap (λ b. count_of kind cells + cond b 1 0) h ∙ omega arith)
 
 pub grows_refl : (a : Circuit) → GrowsByGates a a
-grows_refl a = record { extends = extends_refl a.cells; limit = refl; outlets = refl; inputs = refl; states = refl }
+grows_refl a = record { grows = same_grows a; registers = refl; memories = refl }
 
 pub grows_trans : {a b c : Circuit} → GrowsByGates a b → GrowsByGates b c → GrowsByGates a c
-grows_trans p q = record {
-  extends = extends_trans p.extends q.extends;
-  limit = q.limit ∙ p.limit;
-  outlets = q.outlets ∙ p.outlets;
-  inputs = q.inputs ∙ p.inputs;
-  states = q.states ∙ p.states;
-}
+grows_trans p q = record { grows = grows_on p.grows q.grows; registers = q.registers ∙ p.registers; memories = q.memories ∙ p.memories }
 
 pub net_grows : {a b : Circuit} {n w : ℕ} → GrowsByGates a b → IsNet a.cells n w → IsNet b.cells n w
-net_grows g h = net_later g.extends h
+net_grows g h = net_later g.grows.extends h
 
-pub longer : (old new : Circuit) (c : SizedCell) → new ≡ record old { cells = old.cells ++ c ∷ [] } → length new.cells ≡ length old.cells + 1
-longer old new c e = ap (λ (x : Circuit). length x.cells) e ∙ length-append old.cells (c ∷ [])
+-- what was added has no register and no memory
+pub gates_added : {a b : Circuit} {most products : ℕ} → Adds a b most products → count_of is_register b.cells ≤ count_of is_register a.cells
+    → AddsGates a b most
+gates_added {a} {b} p few =
+    let more = count_grows is_register a.cells b.cells p.grows.extends in
+    record {
+      grows = record { grows = p.grows; registers = omega (arith, few, more); memories = p.memories };
+      more = grows_length p.grows;
+      few = p.cells;
+    }
+
+-- one cell more
+pub adds_push : (old new : Circuit) (c : SizedCell) → is_input c.cell ≡ false → is_register c.cell ≡ false → is_memory c.cell ≡ false
+    → new ≡ record old { cells = old.cells ++ c ∷ [] } → AddsGates old new 1
+adds_push old new c i r m e = rw e (record {
+  grows = record {
+    grows = record { extends = extends_append old.cells (c ∷ []); limit = refl; outlets = refl; inputs = uncounted_push is_input old.cells c i };
+    registers = uncounted_push is_register old.cells c r;
+    memories = uncounted_push is_memory old.cells c m;
+  };
+  more = omega (arith, length-append old.cells (c ∷ []));
+  few = omega (arith, length-append old.cells (c ∷ []));
+})
+
+pub adds_sum : {a b c : Circuit} {m n : ℕ} → AddsGates a b m → AddsGates b c n → AddsGates a c (m + n)
+adds_sum p q = record {
+  grows = grows_trans p.grows q.grows;
+  more = omega (arith, p.more, q.more);
+  few = omega (arith, p.few, q.few);
+}
+
+pub adds_within : {a b : Circuit} {m n : ℕ} → m ≤ n → AddsGates a b m → AddsGates a b n
+adds_within l p = record { grows = p.grows; more = p.more; few = omega (arith, l, p.few) }
 
 pub pushed_net : (old new : Circuit) (y : NetId) (w : ℕ) (cell : Cell) → IsPlain cell → y ≡ record { 0 = length old.cells }
     → new ≡ record old { cells = old.cells ++ (record { width = w; cell = cell }) ∷ [] } → IsNet new.cells y.0 w
@@ -62,7 +74,7 @@ pushed_net old new y w cell p i e = rw (e, i) (record { sized = record { width =
 
 -- what carries the later cells carries the earlier
 pub back : {a b : Circuit} {all : List SizedCell} {from : ℕ} → GrowsByGates a b → Carries from b.cells all → Carries from a.cells all
-back {from} g k = carries_trans (carries_extends from g.extends) k
+back g k = carried_back g.grows k
 
 -- a word stays what it is as the netlist grows
 pub word_grows : {from n w : ℕ} {a b : Circuit} {f : List Clock → ℕ → ℕ} → GrowsByGates a b → IsWord from a.cells n w f → IsWord from b.cells n w f
@@ -82,61 +94,49 @@ two_operation cells op a b w r plain ne range p q e =
     let wide : width_of cells (main_operand op (a ∷ b ∷ a ∷ [])) ≡ w = ap (width_of cells) (main_two op a b ne) ∙ net_width p in
     record { unsigned = plain; range = range; operands = rw wide (operands_two op (IsNet cells) a b w ne p q); result = rw wide e }
 
-pub choose_operation : (cells : List SizedCell) (c a b : NetId) (w : ℕ) → IsNet cells c.0 1 → IsNet cells a.0 w → IsNet cells b.0 w
-    → IsOperation cells Mux (c ∷ a ∷ b ∷ []) w
-choose_operation cells c a b w s p q =
-    let e : width_of cells a.0 ≡ w = net_width p in record { unsigned = refl; range = tt; operands = rw e (s, p, q); result = sym e }
-
 -- the word of an operator
-pub gate_word : (from : ℕ) (old new : Circuit) (y : NetId) (op : WordOp) (a b : NetId) (w r : ℕ) → op ≢ Mux → from ≤ length old.cells
-    → y ≡ record { 0 = length old.cells }
-    → new ≡ record old { cells = old.cells ++ (record { width = r; cell = Op op (a ∷ b ∷ a ∷ []) }) ∷ [] }
-    → (f g : List Clock → ℕ → ℕ) → IsWord from old.cells a.0 w f → IsWord from old.cells b.0 w g
-    → IsWord from new.cells y.0 r (λ run t. word_result op w (f run t) (g run t) (f run t))
-gate_word from old new y op a b w r ne low i e f g fa gb =
-    let args : List NetId = a ∷ b ∷ a ∷ [] in
-    let more : List SizedCell = old.cells ++ (record { width = r; cell = Op op args }) ∷ [] in
-    let main : IsNet old.cells (main_operand op args) w = subst (λ n. IsNet old.cells n w) (sym (main_two op a b ne)) fa.found in
-    rw (e, i) (record {
-      found = record { sized = record { width = r; cell = Op op args }; found = get_pushed old.cells _; plain = tt; wide = refl };
-      words = λ all k run is t l.
-          let before : Carries from old.cells all = carries_trans (carries_extends from (extends_append old.cells _)) k in
-          let z = op_word old.cells op args r w main all (carries_later from (length old.cells) low k) run is t l in
-          let p = fa.words all before run is t l in
-          let q = gb.words all before run is t l in
-          rw (p, q) at z;
-    })
+pub gate_word : (from : ℕ) (old new : Circuit) (y op_width r : ℕ) (op : WordOp) (a b : NetId) → op ≢ Mux → from ≤ length old.cells
+    → GrowsByGates old new → IsNet new.cells y r
+    → InEveryRunFrom (length old.cells) new.cells (λ run. IsResult run y op (width_of old.cells (main_operand op (a ∷ b ∷ a ∷ []))) (a ∷ b ∷ a ∷ []))
+    → (f g : List Clock → ℕ → ℕ) → IsWord from old.cells a.0 op_width f → IsWord from old.cells b.0 op_width g
+    → IsWord from new.cells y r (λ run t. word_result op op_width (f run t) (g run t) (f run t))
+gate_word from old new y w r op a b ne low grows net words f g fa gb = record {
+  found = net;
+  words = λ all k run is t l.
+      let wide : width_of old.cells (main_operand op (a ∷ b ∷ a ∷ [])) ≡ w = ap (width_of old.cells) (main_two op a b ne) ∙ net_width fa.found in
+      let z = words all (carries_later from (length old.cells) low k) run is t l in
+      let p = fa.words all (back grows k) run is t l in
+      let q = gb.words all (back grows k) run is t l in
+      rw (wide, p, q) at z;
+}
 
-pub select_word : (from : ℕ) (old new : Circuit) (y c a b : NetId) (w : ℕ) → from ≤ length old.cells → y ≡ record { 0 = length old.cells }
-    → new ≡ record old { cells = old.cells ++ (record { width = w; cell = Op Mux (c ∷ a ∷ b ∷ []) }) ∷ [] }
+pub select_word : (from : ℕ) (old new : Circuit) (y w : ℕ) (c a b : NetId) → from ≤ length old.cells → GrowsByGates old new → IsNet new.cells y w
+    → InEveryRunFrom (length old.cells) new.cells (λ run. IsResult run y Mux w (c ∷ a ∷ b ∷ []))
     → (h f g : List Clock → ℕ → ℕ) → IsWord from old.cells c.0 1 h → IsWord from old.cells a.0 w f → IsWord from old.cells b.0 w g
-    → IsWord from new.cells y.0 w (λ run t. if h run t == 1 then f run t else g run t)
-select_word from old new y c a b w low i e h f g hc fa gb =
-    let args : List NetId = c ∷ a ∷ b ∷ [] in
-    rw (e, i) (record {
-      found = record { sized = record { width = w; cell = Op Mux args }; found = get_pushed old.cells _; plain = tt; wide = refl };
-      words = λ all k run is t l.
-          let before : Carries from old.cells all = carries_trans (carries_extends from (extends_append old.cells _)) k in
-          let z = op_word old.cells Mux args w w fa.found all (carries_later from (length old.cells) low k) run is t l in
-          let o = hc.words all before run is t l in
-          let p = fa.words all before run is t l in
-          let q = gb.words all before run is t l in
-          rw (o, p, q) at z;
-    })
+    → IsWord from new.cells y w (λ run t. if h run t == 1 then f run t else g run t)
+select_word from old new y w c a b low grows net words h f g hc fa gb = record {
+  found = net;
+  words = λ all k run is t l.
+      let z = words all (carries_later from (length old.cells) low k) run is t l in
+      let o = hc.words all (back grows k) run is t l in
+      let p = fa.words all (back grows k) run is t l in
+      let q = gb.words all (back grows k) run is t l in
+      rw (o, p, q) at z;
+}
 
-pub fixed_word : (from : ℕ) (old new : Circuit) (y : NetId) (w k : ℕ) → from ≤ length old.cells → y ≡ record { 0 = length old.cells }
-    → new ≡ record old { cells = old.cells ++ (record { width = w; cell = Const k }) ∷ [] } → IsWord from new.cells y.0 w (λ run t. k)
-fixed_word from old new y w k low i e = rw (e, i) (record {
-  found = record { sized = record { width = w; cell = Const k }; found = get_pushed old.cells _; plain = tt; wide = refl };
-  words = λ all c run is t l. const_word old.cells w k all (carries_later from (length old.cells) low c) run is t l;
-})
+pub fixed_word : (from : ℕ) (old new : List SizedCell) (y w k : ℕ) → from ≤ length old → IsNet new y w
+    → InEveryRunFrom (length old) new (λ run. IsConstant run y k) → IsWord from new y w (λ run t. k)
+fixed_word from old new y w k low net words = record {
+  found = net;
+  words = λ all c run is t l. words all (carries_later from (length old) low c) run is t l;
+}
 
 -- a value that a net has fits
 pub value_fits : (from : ℕ) (cells all : List SizedCell) (run : List Clock) (t n w : ℕ) (f : List Clock → ℕ → ℕ) → IsWord from cells n w f
     → Carries from cells all → IsRun all run → t < length run → f run t < 2 ^ w
 value_fits from cells all run t n w f h k is l =
     let e = h.words all k run is t l in
-    rw (← e) (net_fits all run t n w (k.nets n w h.found) is l)
+    rw (← e) (held_fits all run t n w is l (k.nets n w h.found))
 
 -- a value by another way to it
 pub word_by : {from n w : ℕ} {cells : List SizedCell} (f g : List Clock → ℕ → ℕ)

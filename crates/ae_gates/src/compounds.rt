@@ -4,7 +4,8 @@ ghost use Rattle.std.specs.Prelude.{◌≡◌, ◌≢◌, ◌<◌, ◌≤◌, �
 ghost use Rattle.ae_word.specs.WordTable.{HasRange, bit, is_signed, result_width_of, word_result};
 ghost use Rattle.ae_netlist.specs.Circuit.{IsNet};
 ghost use Rattle.ae_netlist.specs.Runs.{Clock};
-ghost use Rattle.ae_gates.specs.Cells.{AreBelow, GrowsByGates, HasRoom, IsWord};
+ghost use Rattle.ae_netlist.specs.Room.{HasRoom};
+ghost use Rattle.ae_gates.specs.Cells.{AddsGates, AreBelow, IsWord};
 ghost use Rattle.ae_gates.specs.Shifts.{moved};
 
 use crate::gates::{fixed, gate, select, widen};
@@ -33,9 +34,7 @@ pub fn compared(
     requires low { 1 ≤ width }
     requires high { width ≤ 64 }
     requires room { HasRoom nl.old 2 }
-    ensures grows { OnOk result (GrowsByGates nl.old nl.new) }
-    ensures more { OnOk result (length nl.old.cells ≤ length nl.new.cells) }
-    ensures few { OnOk result (length nl.new.cells ≤ length nl.old.cells + 2) }
+    ensures adds { OnOk result (AddsGates nl.old nl.new 2) }
     ensures net { IfOk result (λ y. IsNet nl.new.cells y.0 width) }
     ensures word { IfOk result (λ y. (f g : List Clock → ℕ → ℕ) → IsWord from nl.old.cells a.0 own f → IsWord from nl.old.cells b.0 own g → IsWord from nl.new.cells y.0 width (λ run t. word_result op own (f run t) (g run t) (f run t))) }
 {
@@ -65,9 +64,7 @@ pub fn opposed(
     requires low { 1 ≤ width }
     requires high { width ≤ 64 }
     requires room { HasRoom nl.old 3 }
-    ensures grows { OnOk result (GrowsByGates nl.old nl.new) }
-    ensures more { OnOk result (length nl.old.cells ≤ length nl.new.cells) }
-    ensures few { OnOk result (length nl.new.cells ≤ length nl.old.cells + 3) }
+    ensures adds { OnOk result (AddsGates nl.old nl.new 3) }
     ensures net { IfOk result (λ y. IsNet nl.new.cells y.0 width) }
     ensures word { IfOk result (λ y. (f g : List Clock → ℕ → ℕ) → IsWord from nl.old.cells a.0 own f → IsWord from nl.old.cells b.0 own g → IsWord from nl.new.cells y.0 width (λ run t. 2 ^ 1 - 1 - word_result op own (f run t) (g run t) (f run t))) }
 {
@@ -85,9 +82,7 @@ pub fn is_zero(nl: &mut Netlist, from: u32, a: NetId, own: u32) -> Result<NetId,
     requires high { own ≤ 64 }
     requires net { IsNet nl.old.cells a.0 own }
     requires room { HasRoom nl.old 2 }
-    ensures grows { OnOk result (GrowsByGates nl.old nl.new) }
-    ensures more { OnOk result (length nl.old.cells ≤ length nl.new.cells) }
-    ensures few { OnOk result (length nl.new.cells ≤ length nl.old.cells + 2) }
+    ensures adds { OnOk result (AddsGates nl.old nl.new 2) }
     ensures net { IfOk result (λ y. IsNet nl.new.cells y.0 1) }
     ensures word { IfOk result (λ y. (f : List Clock → ℕ → ℕ) → IsWord from nl.old.cells a.0 own f → IsWord from nl.new.cells y.0 1 (λ run t. bit (f run t == 0))) }
 {
@@ -122,9 +117,7 @@ pub fn tested(
     requires low { 1 ≤ width }
     requires high { width ≤ 64 }
     requires room { HasRoom nl.old 7 }
-    ensures grows { OnOk result (GrowsByGates nl.old nl.new) }
-    ensures more { OnOk result (length nl.old.cells ≤ length nl.new.cells) }
-    ensures few { OnOk result (length nl.new.cells ≤ length nl.old.cells + 7) }
+    ensures adds { OnOk result (AddsGates nl.old nl.new 7) }
     ensures net { IfOk result (λ y. IsNet nl.new.cells y.0 width) }
     ensures word { IfOk result (λ y. (f g : List Clock → ℕ → ℕ) → IsWord from nl.old.cells a.0 wa f → IsWord from nl.old.cells b.0 wb g → IsWord from nl.new.cells y.0 width (λ run t. 2 ^ 1 - 1 - word_result op 1 (bit (f run t == 0)) (bit (g run t == 0)) (bit (f run t == 0)))) }
 {
@@ -154,9 +147,7 @@ pub fn chosen(
     requires low { 1 ≤ width }
     requires high { width ≤ 64 }
     requires room { HasRoom nl.old 3 }
-    ensures grows { OnOk result (GrowsByGates nl.old nl.new) }
-    ensures more { OnOk result (length nl.old.cells ≤ length nl.new.cells) }
-    ensures few { OnOk result (length nl.new.cells ≤ length nl.old.cells + 3) }
+    ensures adds { OnOk result (AddsGates nl.old nl.new 3) }
     ensures net { IfOk result (λ y. IsNet nl.new.cells y.0 width) }
     ensures word { IfOk result (λ y. (h f g : List Clock → ℕ → ℕ) → IsWord from nl.old.cells test.0 own h → IsWord from nl.old.cells a.0 width f → IsWord from nl.old.cells b.0 width g → IsWord from nl.new.cells y.0 width (λ run t. if h run t == 0 then g run t else f run t)) }
 {
@@ -184,9 +175,7 @@ pub fn cut(
     requires within { count ≤ width }
     requires net { IsNet nl.old.cells x.0 own }
     requires room { HasRoom nl.old 3 }
-    ensures grows { OnOk result (GrowsByGates nl.old nl.new) }
-    ensures more { OnOk result (length nl.old.cells ≤ length nl.new.cells) }
-    ensures few { OnOk result (length nl.new.cells ≤ length nl.old.cells + 3) }
+    ensures adds { OnOk result (AddsGates nl.old nl.new 3) }
     ensures net { IfOk result (λ y. IsNet nl.new.cells y.0 width) }
     ensures word { IfOk result (λ y. (f : List Clock → ℕ → ℕ) → IsWord from nl.old.cells x.0 own f → IsWord from nl.new.cells y.0 width (λ run t. f run t / 2 ^ low % 2 ^ count)) }
 {
@@ -212,9 +201,7 @@ pub fn linked(
     requires left { IsNet nl.old.cells a.0 wa }
     requires right { IsNet nl.old.cells b.0 wb }
     requires room { HasRoom nl.old 4 }
-    ensures grows { OnOk result (GrowsByGates nl.old nl.new) }
-    ensures more { OnOk result (length nl.old.cells ≤ length nl.new.cells) }
-    ensures few { OnOk result (length nl.new.cells ≤ length nl.old.cells + 4) }
+    ensures adds { OnOk result (AddsGates nl.old nl.new 4) }
     ensures net { IfOk result (λ y. IsNet nl.new.cells y.0 (wa + wb)) }
     ensures word { IfOk result (λ y. (f g : List Clock → ℕ → ℕ) → IsWord from nl.old.cells a.0 wa f → IsWord from nl.old.cells b.0 wb g → IsWord from nl.new.cells y.0 (wa + wb) (λ run t. f run t * 2 ^ wb + g run t)) }
 {
@@ -261,9 +248,7 @@ pub fn moved_by(
     requires low { 1 ≤ width }
     requires high { width ≤ 64 }
     requires room { HasRoom nl.old 1 }
-    ensures grows { OnOk result (GrowsByGates nl.old nl.new) }
-    ensures more { OnOk result (length nl.old.cells ≤ length nl.new.cells) }
-    ensures few { OnOk result (length nl.new.cells ≤ length nl.old.cells + 1) }
+    ensures adds { OnOk result (AddsGates nl.old nl.new 1) }
     ensures net { IfOk result (λ y. IsNet nl.new.cells y.0 width) }
     ensures word { IfOk result (λ y. (f : List Clock → ℕ → ℕ) → IsWord from nl.old.cells x.0 width f → IsWord from nl.new.cells y.0 width (λ run t. moved way width (f run t) places)) }
 {
@@ -301,9 +286,7 @@ fn stage(
     requires net { IsNet nl.old.cells x.0 width }
     requires amount { IsNet nl.old.cells by.0 own }
     requires room { HasRoom nl.old 5 }
-    ensures grows { OnOk result (GrowsByGates nl.old nl.new) }
-    ensures more { OnOk result (length nl.old.cells ≤ length nl.new.cells) }
-    ensures few { OnOk result (length nl.new.cells ≤ length nl.old.cells + 5) }
+    ensures adds { OnOk result (AddsGates nl.old nl.new 5) }
     ensures net { IfOk result (λ y. IsNet nl.new.cells y.0 width) }
     ensures word { IfOk result (λ y. (f g : List Clock → ℕ → ℕ) → IsWord from nl.old.cells x.0 width (λ run t. moved way width (f run t) (g run t % 2 ^ i)) → IsWord from nl.old.cells by.0 own g → IsWord from nl.new.cells y.0 width (λ run t. moved way width (f run t) (g run t % 2 ^ (i + 1)))) }
 {
@@ -333,9 +316,7 @@ fn ended(
     requires net { IsNet nl.old.cells x.0 width }
     requires amount { IsNet nl.old.cells by.0 own }
     requires room { HasRoom nl.old 5 }
-    ensures grows { OnOk result (GrowsByGates nl.old nl.new) }
-    ensures more { OnOk result (length nl.old.cells ≤ length nl.new.cells) }
-    ensures few { OnOk result (length nl.new.cells ≤ length nl.old.cells + 5) }
+    ensures adds { OnOk result (AddsGates nl.old nl.new 5) }
     ensures net { IfOk result (λ y. IsNet nl.new.cells y.0 width) }
     ensures word { IfOk result (λ y. (f g : List Clock → ℕ → ℕ) → IsWord from nl.old.cells x.0 width (λ run t. moved way width (f run t) (g run t % 2 ^ 6)) → IsWord from nl.old.cells by.0 own g → AreBelow from nl.old.cells width f → IsWord from nl.new.cells y.0 width (λ run t. moved way width (f run t) (g run t))) }
 {
@@ -364,9 +345,7 @@ pub fn shifted(
     requires net { IsNet nl.old.cells x.0 width }
     requires amount { IsNet nl.old.cells by.0 own }
     requires room { HasRoom nl.old 35 }
-    ensures grows { OnOk result (GrowsByGates nl.old nl.new) }
-    ensures more { OnOk result (length nl.old.cells ≤ length nl.new.cells) }
-    ensures few { OnOk result (length nl.new.cells ≤ length nl.old.cells + 35) }
+    ensures adds { OnOk result (AddsGates nl.old nl.new 35) }
     ensures net { IfOk result (λ y. IsNet nl.new.cells y.0 width) }
     ensures word { IfOk result (λ y. (f g : List Clock → ℕ → ℕ) → IsWord from nl.old.cells x.0 width f → IsWord from nl.old.cells by.0 own g → IsWord from nl.new.cells y.0 width (λ run t. moved way width (f run t) (g run t))) }
 {

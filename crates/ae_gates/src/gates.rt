@@ -1,12 +1,14 @@
-// Nets of one cell, with their words by those of their operands.
+// Gates whose words are told by those of their operands, whatever these are by.
 
-ghost use Rattle.std.specs.Prelude.{◌≡◌, ◌≢◌, ◌<◌, ◌≤◌, ◌+◌, ◌%◌, ◌==◌, ◌^◌, ℕ, List, length, false, if◌then◌else◌, IfOk, OnOk};
+ghost use Rattle.std.specs.Prelude.{◌≡◌, ◌≢◌, ◌<◌, ◌≤◌, ◌%◌, ◌==◌, ◌^◌, ℕ, List, length, false, if◌then◌else◌, IfOk, OnOk};
 ghost use Rattle.ae_word.specs.WordTable.{HasRange, is_signed, result_width_of, word_result};
 ghost use Rattle.ae_netlist.specs.Circuit.{IsNet};
 ghost use Rattle.ae_netlist.specs.Runs.{Clock};
-ghost use Rattle.ae_gates.specs.Cells.{GrowsByGates, HasRoom, IsWord};
+ghost use Rattle.ae_netlist.specs.Room.{HasRoom};
+ghost use Rattle.ae_gates.specs.Cells.{AddsGates, IsWord};
 
-use ae_netlist::{Cell, NetId, Netlist};
+use crate::cells::{choose, constant, operate};
+use ae_netlist::{NetId, Netlist};
 use ae_word::{Width, WordOp};
 use std::alloc::AllocError;
 
@@ -17,13 +19,11 @@ pub fn fixed(nl: &mut Netlist, from: u32, width: u32, word: u64) -> Result<NetId
     requires high { width ≤ 64 }
     requires fits { word < 2 ^ width }
     requires room { HasRoom nl.old 1 }
-    ensures grows { OnOk result (GrowsByGates nl.old nl.new) }
-    ensures more { OnOk result (length nl.old.cells ≤ length nl.new.cells) }
-    ensures few { OnOk result (length nl.new.cells ≤ length nl.old.cells + 1) }
+    ensures adds { OnOk result (AddsGates nl.old nl.new 1) }
     ensures net { IfOk result (λ y. IsNet nl.new.cells y.0 width) }
     ensures word { IfOk result (λ y. IsWord from nl.new.cells y.0 width (λ run t. word)) }
 {
-    let y = nl.push(Width { bits: width }, Cell::Const(word))?;
+    let y = constant(nl, Width { bits: width }, word)?;
     Ok(y)
 }
 
@@ -47,13 +47,11 @@ pub fn gate(
     requires right { IsNet nl.old.cells b.0 width }
     requires result { wide ≡ result_width_of op width }
     requires room { HasRoom nl.old 1 }
-    ensures grows { OnOk result (GrowsByGates nl.old nl.new) }
-    ensures more { OnOk result (length nl.old.cells ≤ length nl.new.cells) }
-    ensures few { OnOk result (length nl.new.cells ≤ length nl.old.cells + 1) }
+    ensures adds { OnOk result (AddsGates nl.old nl.new 1) }
     ensures net { IfOk result (λ y. IsNet nl.new.cells y.0 wide) }
     ensures word { IfOk result (λ y. (f g : List Clock → ℕ → ℕ) → IsWord from nl.old.cells a.0 width f → IsWord from nl.old.cells b.0 width g → IsWord from nl.new.cells y.0 wide (λ run t. word_result op width (f run t) (g run t) (f run t))) }
 {
-    let y = nl.push(Width { bits: wide }, Cell::Op(op, [a, b, a]))?;
+    let y = operate(nl, op, [a, b, a], Width { bits: wide })?;
     Ok(y)
 }
 
@@ -73,13 +71,11 @@ pub fn select(
     requires left { IsNet nl.old.cells a.0 width }
     requires right { IsNet nl.old.cells b.0 width }
     requires room { HasRoom nl.old 1 }
-    ensures grows { OnOk result (GrowsByGates nl.old nl.new) }
-    ensures more { OnOk result (length nl.old.cells ≤ length nl.new.cells) }
-    ensures few { OnOk result (length nl.new.cells ≤ length nl.old.cells + 1) }
+    ensures adds { OnOk result (AddsGates nl.old nl.new 1) }
     ensures net { IfOk result (λ y. IsNet nl.new.cells y.0 width) }
     ensures word { IfOk result (λ y. (h f g : List Clock → ℕ → ℕ) → IsWord from nl.old.cells bit.0 1 h → IsWord from nl.old.cells a.0 width f → IsWord from nl.old.cells b.0 width g → IsWord from nl.new.cells y.0 width (λ run t. if h run t == 1 then f run t else g run t)) }
 {
-    let y = nl.push(Width { bits: width }, Cell::Op(WordOp::Mux, [bit, a, b]))?;
+    let y = choose(nl, bit, a, b, Width { bits: width })?;
     Ok(y)
 }
 
@@ -97,9 +93,7 @@ pub fn widen(
     requires net { IsNet nl.old.cells x.0 own }
     requires within { own ≤ width }
     requires room { HasRoom nl.old 1 }
-    ensures grows { OnOk result (GrowsByGates nl.old nl.new) }
-    ensures more { OnOk result (length nl.old.cells ≤ length nl.new.cells) }
-    ensures few { OnOk result (length nl.new.cells ≤ length nl.old.cells + 1) }
+    ensures adds { OnOk result (AddsGates nl.old nl.new 1) }
     ensures net { IfOk result (λ y. IsNet nl.new.cells y.0 width) }
     ensures word { IfOk result (λ y. (f : List Clock → ℕ → ℕ) → IsWord from nl.old.cells x.0 own f → IsWord from nl.new.cells y.0 width f) }
 {
@@ -117,9 +111,7 @@ pub fn fit(nl: &mut Netlist, from: u32, x: NetId, own: u32, width: u32) -> Resul
     requires high { width ≤ 64 }
     requires net { IsNet nl.old.cells x.0 own }
     requires room { HasRoom nl.old 1 }
-    ensures grows { OnOk result (GrowsByGates nl.old nl.new) }
-    ensures more { OnOk result (length nl.old.cells ≤ length nl.new.cells) }
-    ensures few { OnOk result (length nl.new.cells ≤ length nl.old.cells + 1) }
+    ensures adds { OnOk result (AddsGates nl.old nl.new 1) }
     ensures net { IfOk result (λ y. IsNet nl.new.cells y.0 width) }
     ensures word { IfOk result (λ y. (f : List Clock → ℕ → ℕ) → IsWord from nl.old.cells x.0 own f → IsWord from nl.new.cells y.0 width (λ run t. f run t % 2 ^ width)) }
 {

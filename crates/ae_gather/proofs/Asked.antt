@@ -1,14 +1,14 @@
 -- What is read from a ring at places that change is what was written some clocks before.
-use Rattle.std.proofs.Common.{ℕ, List, ◌≡◌, ◌+◌, ◌-◌, ◌<◌, ◌≤◌, ◌%◌, ◌^◌, ◌∷◌, [], length, get_or, Result, Ok, Err, IfOk, arith, ap, ◌∙◌}
+use Rattle.std.proofs.Common.{ℕ, List, ◌≡◌, ◌+◌, ◌-◌, ◌<◌, ◌≤◌, ◌%◌, ◌^◌, ◌∷◌, [], length, get_or, arith, ap, ◌∙◌}
 use Rattle.std.proofs.Math.Nat.{add-mod_right, mod-add-mod}
 use Rattle.ae_word.specs.declared.op.WordOp.TheVariants.{Add}
 use Rattle.ae_netlist.specs.declared.cell.NetId.{NetId}
-use Rattle.ae_netlist.specs.declared.netlist.NetFault.{NetFault}
 use Rattle.ae_netlist.specs.Circuit.{Circuit, Extends}
 use Rattle.ae_netlist.specs.Runs.{Clock, word_at, store_at, HasWords, InEveryRunFrom}
 use Rattle.ae_netlist.proofs.Growing.{extends_trans}
 use Rattle.ae_netlist.proofs.Carried.{carries_extends}
-use Rattle.ae_clocked.specs.Signals.{Grows, IsNextOf, IsResult}
+use Rattle.ae_gates.specs.Cells.{Grows, IsResult}
+use Rattle.ae_clocked.specs.Signals.{IsNextOf}
 use Rattle.ae_clocked.specs.Rings.{IsLook, IsRing, IsStore}
 use Rattle.ae_gather.specs.Readers.{IsReader}
 use Rattle.ae_clocked.proofs.RingLaw.{ring_holds}
@@ -31,13 +31,12 @@ look_asked run m at from place x y z d start store counts look next adds c tap s
     (ap (λ p. get_or (store_at run (start + c) m) p 0) at_from ∙
     ring_holds run m at x d start c (c - tap) store counts (omega arith) (omega arith) inside)))
 
-pub reader_made : (n0 n1 n2 n3 : Circuit) (r : Result NetId NetFault) (at word place m counter : NetId) (bits : ℕ) → Grows n0 n1 → Grows n1 n2 → Grows n2 n3
+pub reader_made : (n0 n1 n2 n3 : Circuit) (y : NetId) (at word place m counter : NetId) (bits : ℕ) → Grows n0 n1 → Grows n1 n2 → Grows n2 n3
     → InEveryRunFrom (length n0.cells) n1.cells (λ run. IsResult run at.0 Add bits (counter ∷ place ∷ counter ∷ []))
     → InEveryRunFrom (length n1.cells) n2.cells (λ run. IsLook run word.0 m.0 at.0)
-    → IfOk r (λ y. InEveryRunFrom (length n2.cells) n3.cells (λ run. IsNextOf run y.0 word.0))
-    → IfOk r (λ y. (rst x : ℕ) → IsRing n0.cells rst bits x counter.0 m.0 → IsReader n3.cells rst bits x place.0 y.0)
-reader_made n0 n1 n2 n3 (Err e) at word place m counter bits g1 g2 g3 added look next = tt
-reader_made n0 n1 n2 n3 (Ok y) at word place m counter bits g1 g2 g3 added look next = λ rst x ring. record {
+    → InEveryRunFrom (length n2.cells) n3.cells (λ run. IsNextOf run y.0 word.0)
+    → (rst x : ℕ) → IsRing n0.cells rst bits x counter.0 m.0 → IsReader n3.cells rst bits x place.0 y.0
+reader_made n0 n1 n2 n3 y at word place m counter bits g1 g2 g3 added look next = λ rst x ring. record {
   words = λ all e run is start reset.
       let e2 : Extends n2.cells all = extends_trans g3.extends e in
       let e1 : Extends n1.cells all = extends_trans g2.extends e2 in

@@ -25,6 +25,14 @@ pub struct Schedule {
     pub plan: Plan,
 }
 
+/// What a schedule may take: `spare` registers, and columns that are chosen a clock early where nothing but this move reads
+/// its arguments, which is `alone`.
+#[derive(Clone, Copy)]
+pub struct Allowance {
+    pub alone: bool,
+    pub spare: u64,
+}
+
 fn comes_late(choice: Choice) -> bool
     ensures { result ≡ true → ComesLate choice }
 {
@@ -184,15 +192,14 @@ fn is_spare(schedule: &Schedule, spare: u64) -> bool
 }
 
 /// Which columns are chosen early, and a plan for them. They are only where the registers that this takes, with those of the
-/// lines, are no more than `spare`.
+/// lines, are no more than `allowance.spare`.
 pub fn scheduled(
     alloc: Global,
     trips: &[Trip],
     d: u32,
     ins: u32,
     outs: u32,
-    alone: bool,
-    spare: u64,
+    allowance: Allowance,
 ) -> Result<Schedule, AllocError>
     requires latency { d ≤ 4096 }
     requires few { length trips.now < 2 ^ 32 }
@@ -209,11 +216,11 @@ pub fn scheduled(
     ensures ages { IfOk result (λ s. (q : ℕ) (ages : List ℕ) → slice_get s.plan.lines.items q ≡ Some ages → greatest_of ages ≤ column_delay d q (map trip_tree trips.now)) }
     ensures taps { IfOk result (λ s. sum_by length s.plan.lines.items ≤ sum_by length s.plan.columns.items) }
     ensures few { IfOk result (λ s. (q : ℕ) (ages : List ℕ) → slice_get s.plan.lines.items q ≡ Some ages → length ages ≤ length trips.now) }
-    ensures spare { IfOk result (λ s. 1 ≤ early_count s.early.items → schedule_registers s ≤ spare) }
+    ensures spare { IfOk result (λ s. 1 ≤ early_count s.early.items → schedule_registers s ≤ allowance.spare) }
 {
-    let early = which_early(alloc, trips, d, ins, outs, alone)?;
+    let early = which_early(alloc, trips, d, ins, outs, allowance.alone)?;
     let first = schedule_of(alloc, trips, d, ins, outs, early)?;
-    if is_spare(&first, spare) {
+    if is_spare(&first, allowance.spare) {
         return Ok(first);
     }
     let none = none_early(alloc, outs)?;

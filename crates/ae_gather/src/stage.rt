@@ -2,7 +2,8 @@
 
 ghost use Rattle.std.specs.Prelude.{◌≡◌, ◌≤◌, ◌+◌, ◌↔◌, length, map, IsSome, IfOk, IfSome, OnOk, Some};
 ghost use Rattle.ae_netlist.specs.Counts.{AreWhole, count_of, is_memory, is_mul};
-ghost use Rattle.ae_clocked.specs.Signals.{Grows, IsFullAt};
+ghost use Rattle.ae_netlist.specs.Room.{HasRoom};
+ghost use Rattle.ae_gates.specs.Cells.{Grows};
 ghost use Rattle.ae_clocked.specs.Phases.{Belongs, KeepsCounters, made_of};
 ghost use Rattle.ae_ops.specs.Waves.{AreNets};
 ghost use Rattle.ae_ops.specs.Blocks.{AreBundles, KeepsLaw, stream_widths};
@@ -13,13 +14,13 @@ ghost use Rattle.ae_gather.specs.Gathers.{IsGather, gather_part, move_of, move_r
 
 use crate::joining::join;
 use crate::layouts::all_widths;
-use crate::moving::gather;
+use crate::moving::{BlockTimes, gather};
 use ae_clocked::Clocks;
 use ae_moves::{Origin, all_trips, is_move, latency};
-use ae_netlist::{NetFault, Netlist};
+use ae_netlist::Netlist;
 use ae_ops::{Bundle, Stage};
 use ae_sttype::StType;
-use std::alloc::Global;
+use std::alloc::{AllocError, Global};
 use std::marker::Model;
 
 /// The most inputs of a move. So the numbers of their columns have 32 bits.
@@ -115,17 +116,17 @@ impl Stage for Gather {
         clocks: &mut Clocks,
         ins: &[Bundle],
         arrival: u32,
-    ) -> Result<Bundle, NetFault>
+    ) -> Result<Bundle, AllocError>
         requires belongs { Belongs clocks.old nl.old.cells }
         requires bundles { AreBundles nl.old.cells (gather_part (move_of self.now)).ins ins.now }
-        ensures belongs { Belongs clocks.new nl.new.cells }
-        ensures keeps { KeepsCounters clocks.old clocks.new }
-        ensures grows { Grows nl.old nl.new }
-        ensures cells { length nl.new.cells ≤ length nl.old.cells + (gather_part (move_of self.now)).most_cells }
+        requires room { HasRoom nl.old ((gather_part (move_of self.now)).most_cells) }
+        ensures belongs { OnOk result (Belongs clocks.new nl.new.cells) }
+        ensures keeps { OnOk result (KeepsCounters clocks.old clocks.new) }
+        ensures grows { OnOk result (Grows nl.old nl.new) }
+        ensures cells { OnOk result (length nl.new.cells ≤ length nl.old.cells + (gather_part (move_of self.now)).most_cells) }
         ensures muls { OnOk result (count_of is_mul nl.new.cells ≡ count_of is_mul nl.old.cells + (gather_part (move_of self.now)).products) }
         ensures memories { OnOk result (count_of is_memory nl.new.cells ≤ count_of is_memory nl.old.cells + (gather_part (move_of self.now)).most_memories) }
         ensures whole { OnOk result (AreWhole nl.old.cells → AreWhole nl.new.cells) }
-        ensures full { IsFullAt result nl.new }
         ensures bundle { IfOk result (λ out. AreNets nl.new.cells (stream_widths (gather_part (move_of self.now)).out) out) }
         ensures law { IfOk result (λ out. KeepsLaw nl.new.cells clocks.old.rst arrival (gather_part (move_of self.now)) ins.now out) }
         ensures counted { OnOk result (Counted nl.old nl.new (made_of clocks.old) (made_of clocks.new) (move_registers (move_of self.now)) (move_tests (move_of self.now))) }
@@ -134,7 +135,12 @@ impl Stage for Gather {
         let joined = join(alloc, ins)?;
         let trips = all_trips(alloc, &self.ins, &joined.firsts, &self.out, &self.source)?;
         let widths = all_widths(alloc, &self.out)?;
-        let d = latency(&self.ins, &self.out, &self.source);
+        let latency = latency(&self.ins, &self.out, &self.source);
+        let times = BlockTimes {
+            period,
+            latency,
+            arrival,
+        };
         let nets = gather(
             alloc,
             nl,
@@ -142,9 +148,7 @@ impl Stage for Gather {
             &joined.nets,
             &widths,
             &trips,
-            period,
-            d,
-            arrival,
+            times,
             self.alone,
         )?;
         Ok(Bundle::new(nets))

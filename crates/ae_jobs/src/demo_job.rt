@@ -9,6 +9,7 @@ ghost use Rattle.ae_jobs.specs.PlanTexts.{counted_line};
 ghost use Rattle.ae_compile.specs.Costing.{IsCosted, load_limit};
 ghost use Rattle.ae_jobs.specs.DemoTexts.{IsDemoText, IsSummedRun, demo_program, demo_slowdown, demo_words, summary};
 
+use crate::blocks::fed_blocks;
 use crate::run_job::clock_count;
 use ae_compile::{
     CompileFault, Compiled, Costed, LOAD_LIMIT, OutOfMemory, compile, cost, module_text, play,
@@ -102,18 +103,8 @@ fn summed(
     let text = module_text(alloc, compiled)?;
     let played = play(alloc, compiled, text.as_str(), fill)?;
     let told = compiled.report();
-    let slowdown = compiled.costed().slowdown();
-    let sums = sum_clocks(
-        alloc,
-        &played,
-        &told.ins,
-        &told.outs,
-        slowdown,
-        told.latency,
-        words,
-        blocks,
-        fill,
-    )?;
+    let fed = fed_blocks(compiled, words, blocks, fill);
+    let sums = sum_clocks(alloc, &played, &fed, &told.outs, told.latency)?;
     Ok((text, sums))
 }
 

@@ -1,6 +1,7 @@
 //! What each job answers to its input: a status, and a text.
 #![tactic(auto)]
 
+mod blocks;
 mod build_job;
 mod check_job;
 mod check_text;

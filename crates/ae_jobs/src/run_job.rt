@@ -13,6 +13,7 @@ ghost use Rattle.ae_play.specs.Lines.{clock_count};
 ghost use Rattle.ae_jobs.specs.EvalRows.{AreRows, AreBlocks};
 ghost use Rattle.ae_jobs.specs.RunTexts.{IsPlayed, IsRunOf, IsRunText, IsRunShown, input_count, output_count, run_limit, word_count};
 
+use crate::blocks::fed_blocks;
 use crate::reply::{RUN_LIMIT, Reply, refused, refused_program};
 use crate::status::Status;
 use crate::wave_text::wave_text;
@@ -129,19 +130,8 @@ fn run_text(
     let played = play(alloc, compiled, text.as_str(), fill)?;
     text.push_str("%% clocks\n")?;
     let told = compiled.report();
-    let slowdown = compiled.costed().slowdown();
-    write_clocks(
-        alloc,
-        &mut text,
-        &played,
-        &told.ins,
-        &told.outs,
-        slowdown,
-        told.latency,
-        words,
-        blocks,
-        fill,
-    )?;
+    let fed = fed_blocks(compiled, words, blocks, fill);
+    write_clocks(alloc, &mut text, &played, &fed, &told.outs, told.latency)?;
     Ok(text)
 }
 

@@ -19,6 +19,7 @@ ghost use Rattle.ae_jobs.specs.Inputs.{blocks_of};
 ghost use Rattle.ae_jobs.specs.RunTexts.{run_limit, word_count};
 ghost use Rattle.ae_jobs.specs.WaveTexts.{AreWordsOf, IsWaveText, run_wave};
 
+use crate::blocks::fed_blocks;
 use ae_compile::{Compiled, OutOfMemory, module_ports, module_text, play};
 use ae_play::clock_words;
 use ae_vcd::{Wave, comments_are_passed, texts_are_dumps, write_vcd};
@@ -43,18 +44,9 @@ fn run_words(
         (blocks_of (parameter_types (program_tree compiled.now.costed.program)) table) all.items) }
 {
     let told = compiled.report();
-    let slowdown = compiled.costed().slowdown();
+    let fed = fed_blocks(compiled, words, blocks, fill);
     let played = play(alloc, compiled, text, fill)?;
-    let all = clock_words(
-        alloc,
-        &played,
-        &told.ins,
-        slowdown,
-        told.latency,
-        words,
-        blocks,
-        fill,
-    )?;
+    let all = clock_words(alloc, &played, &fed, told.latency)?;
     Ok(all)
 }
 

@@ -5,6 +5,8 @@ pub mod Again
 pub mod Loops
 pub mod Firsts
 pub mod Read
+mod Bounded
+mod SymbolWeights
 pub mod Weighing
 pub mod Wide
 pub mod TokenShape

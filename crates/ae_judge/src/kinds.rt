@@ -42,7 +42,8 @@ fn any_misread(names: &Names<'_>, symbols: &[Symbol]) -> bool
     false
 }
 
-fn is_number(symbol: Symbol) -> bool
+/// Whether a symbol is a decimal number.
+pub fn is_number(symbol: Symbol) -> bool
     ensures { result ≡ is_number symbol }
 {
     matches!(symbol, Symbol::Number(_))

@@ -1,12 +1,14 @@
 // The weight of a module, which bounds the netlist that is built of it.
 
-ghost use Rattle.std.specs.Prelude.{ℕ, List, ◌≡◌, ◌+◌, ◌↔◌, IsTrue, map, min, sum_by};
+ghost use Rattle.std.specs.Prelude.{ℕ, List, false, ◌≡◌, ◌+◌, ◌↔◌, if◌then◌else◌, IsTrue, map, min, sum_by};
 ghost use Rattle.ae_vmodule.specs.Roots.{numbered, numbered_stmt};
 ghost use Rattle.ae_vmodule.specs.View.{drive_tree, expr_tree, item_tree, module_tree, stmt_tree};
-ghost use Rattle.ae_judge.specs.Weight.{operator_weight, shift_weight, expr_weight, stmt_weight, drive_weight, item_weight};
+ghost use Rattle.ae_judge.specs.Symbols.{is_constant, symbol_weight, symbols_weight, weight_by};
+ghost use Rattle.ae_judge.specs.Weight.{expr_weight, stmt_weight, drive_weight, item_weight};
 ghost use Rattle.ae_judge.specs.Faults.{IsLarge};
 
-use ae_vmodule::{BinOp, Drive, Expr, Root, Stmt, StmtRoot, VItem, VModule};
+use crate::kinds::is_number;
+use ae_vmodule::{BinOp, Drive, Expr, Stmt, StmtRoot, Symbol, VItem, VModule};
 
 /// The least weight of a module that is not built. Greater weights are not told apart from it.
 const LARGE: u32 = 10_000_001;
@@ -17,67 +19,68 @@ fn heavier(a: u32, b: u32) -> u32
     a.saturating_add(b).min(LARGE)
 }
 
-fn operator_weight(op: BinOp, amount: Expr<'_>) -> u32
-    ensures { (ws : List (List ℕ)) → result ≡ operator_weight op (expr_tree ws (numbered amount.entry)) }
+fn one_if(b: bool) -> u32
+    ensures { result ≡ (if b then 1 else 0) }
+{
+    if b { 1 } else { 0 }
+}
+
+/// The weight of an operator whose right operand is a constant or not: a shift by no constant stands for six shifts by a
+/// constant.
+fn weight_by(fixed: bool, op: BinOp) -> u32
+    ensures { result ≡ weight_by fixed op }
 {
     match op {
-        BinOp::Shl | BinOp::Shr => shift_weight(amount),
+        BinOp::Shl | BinOp::Shr => { if fixed { 1 } else { 6 } }
         BinOp::Mul | BinOp::Add | BinOp::Sub => 1,
         BinOp::Lt | BinOp::Le | BinOp::Gt | BinOp::Ge | BinOp::Eq | BinOp::Ne => 1,
         BinOp::And | BinOp::Xor | BinOp::Or | BinOp::Both | BinOp::Either => 1,
     }
 }
 
-/// A shift by no constant stands for six shifts by a constant.
-fn shift_weight(amount: Expr<'_>) -> u32
-    ensures { (ws : List (List ℕ)) → result ≡ shift_weight (expr_tree ws (numbered amount.entry)) }
+/// The weight of a symbol, with that of a decimal number right before it, which `placed` says is there; `fixed` says whether a
+/// constant is.
+fn symbol_weight(placed: bool, fixed: bool, symbol: Symbol) -> u32
+    ensures { result ≡ symbol_weight placed fixed symbol }
 {
-    match amount.root() {
-        Root::Const { .. } => 1,
-        _ => 6,
+    match symbol {
+        Symbol::Part(_) => 0,
+        Symbol::Name(_) | Symbol::Number(_) => one_if(placed),
+        Symbol::Binary(op, _) => one_if(placed) + weight_by(fixed, op),
+        Symbol::Const { .. } | Symbol::Index(_) | Symbol::Unary(_) => one_if(placed) + 1,
+        Symbol::Choose(_, _) | Symbol::One | Symbol::More(_) => one_if(placed) + 1,
+        Symbol::Set(_) | Symbol::Put(_, _) | Symbol::When(_) | Symbol::Either(_, _) => one_if(
+            placed,
+        ),
+        Symbol::End | Symbol::Then(_) => one_if(placed),
     }
 }
 
+fn is_constant(symbol: Symbol) -> bool
+    ensures { result ≡ is_constant symbol }
+{
+    matches!(symbol, Symbol::Const { .. })
+}
+
+fn symbols_weight(symbols: &[Symbol]) -> u32
+    ensures { result ≡ min (symbols_weight false false symbols.now) 10000001 }
+{
+    let mut total: u32 = 0;
+    let mut placed = false;
+    let mut fixed = false;
+    'symbol: for symbol in symbols {
+        total = heavier(total, symbol_weight(placed, fixed, *symbol));
+        placed = is_number(*symbol);
+        fixed = is_constant(*symbol);
+    }
+    heavier(total, one_if(placed))
+}
+
 /// One for each part of a concatenation, beside the weights of the parts.
-#[cycle(weigh)]
 fn expr_weight(whole: Expr<'_>) -> u32
     ensures { (ws : List (List ℕ)) → result ≡ min (expr_weight (expr_tree ws (numbered whole.entry))) 10000001 }
 {
-    let mut total: u32 = 0;
-    let mut value = whole;
-    'part: loop {
-        match value.root() {
-            Root::Name(_) => return total,
-            Root::Const { .. } | Root::Place(_) | Root::Part { .. } => return heavier(total, 1),
-            Root::Index { at, .. } => {
-                total = heavier(total, 1);
-                value = at;
-            }
-            Root::Unary(_, a) => {
-                total = heavier(total, 1);
-                value = a;
-            }
-            Root::Binary(op, a, b) => {
-                total = heavier(total, heavier(operator_weight(op, b), expr_weight(a)));
-                value = b;
-            }
-            Root::Choose(test, a, b) => {
-                total = heavier(
-                    total,
-                    heavier(1, heavier(expr_weight(test), expr_weight(a))),
-                );
-                value = b;
-            }
-            Root::One(a) => {
-                total = heavier(total, 1);
-                value = a;
-            }
-            Root::More(a, rest) => {
-                total = heavier(total, heavier(1, expr_weight(a)));
-                value = rest;
-            }
-        }
-    }
+    symbols_weight(whole.symbols())
 }
 
 /// The weight of a statement with so many `if` round it, which counts them once for each assignment.

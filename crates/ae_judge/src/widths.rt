@@ -7,11 +7,12 @@ ghost use Rattle.ae_vmodule.specs.Roots.{numbered, numbered_stmt};
 ghost use Rattle.ae_judge.specs.Widths.{declared_width, own_width, unary_width, binary_width};
 ghost use Rattle.ae_judge.specs.Faults.{is_outside, is_too_wide, is_too_wide_in_stmt, is_too_wide_in_drive, is_too_wide_in_item, is_too_large};
 ghost use Rattle.ae_judge.specs.Names.{is_memory_name};
+ghost use Rattle.ae_judge.specs.Symbols.{is_bounded};
 ghost use Rattle.ae_vmodule.specs.ModuleTree.{concat_more};
 ghost use Rattle.ae_judge.specs.Judging.{first_from, first_too_large};
 
 use crate::names::{Names, depth_of_kind};
-use ae_vmodule::{BinOp, Drive, Expr, Root, Stmt, StmtRoot, UnOp, VItem, VNet};
+use ae_vmodule::{BinOp, Drive, Expr, Root, Stmt, StmtRoot, Symbol, UnOp, VItem, VNet};
 
 /// The own width of a prefix whose operand has this.
 fn unary_width(op: UnOp, a: u32) -> u32
@@ -165,11 +166,39 @@ fn sum_within(a: u32, b: u32) -> Option<u32>
     if sum > 64 { None } else { Some(sum) }
 }
 
+fn is_bounded(symbol: Symbol) -> bool
+    ensures { result ≡ is_bounded symbol }
+{
+    match symbol {
+        Symbol::Const { fits, .. } => !fits,
+        Symbol::Part(_) | Symbol::Index(_) | Symbol::One | Symbol::More(_) => true,
+        Symbol::Name(_) | Symbol::Number(_) | Symbol::Unary(_) | Symbol::Binary(_, _) => false,
+        Symbol::Choose(_, _) => false,
+        Symbol::Set(_) | Symbol::Put(_, _) | Symbol::When(_) | Symbol::Either(_, _) => false,
+        Symbol::End | Symbol::Then(_) => false,
+    }
+}
+
+fn any_bounded(symbols: &[Symbol]) -> bool
+    ensures { result ≡ list_any is_bounded symbols.now }
+{
+    'symbol: for symbol in symbols {
+        if is_bounded(*symbol) {
+            return true;
+        }
+    }
+    false
+}
+
 /// Whether in the expression a constant does not fit, a select or an index may lie outside, or a concatenation has more
-/// than 64 bits.
+/// than 64 bits. Most expressions have none of these, and then no widths are looked up.
+#[tactic(auto, using(crate::proofs::Bounded::narrow))]
 pub fn is_too_wide(names: &Names<'_>, value: Expr<'_>) -> bool
     ensures { result ≡ is_too_wide names.now.nets (expr_tree names.now.words (numbered value.entry)) }
 {
+    if !any_bounded(value.symbols()) {
+        return false;
+    }
     match width_within(names, value) {
         Some(_) => false,
         None => true,

@@ -1,5 +1,5 @@
 -- One part behind another keeps the law of both.
-use Rattle.std.proofs.Common.{ℕ, ◌≡◌, ◌+◌, List, [], ◌∷◌, Result, Ok, Err, IfOk, refl, sym}
+use Rattle.std.proofs.Common.{ℕ, ◌≡◌, ◌+◌, List, [], ◌∷◌, refl, sym}
 use Rattle.ae_netlist.specs.declared.cell.NetId.{NetId}
 use Rattle.ae_netlist.specs.declared.cell.SizedCell.{SizedCell}
 use Rattle.ae_netlist.specs.Circuit.{Extends}
@@ -24,13 +24,12 @@ behind_blocks clocks a p q waves w out follows period typed first second =
     (keeps_one clocks a p q q.ins waves w follows period first) second in
     record { makes = made.makes }
 
-pub behind_law : {E : Type 0} (r : Result (List NetId) E) (mid new : List SizedCell) (rst rst_then at late : ℕ) (p q : Part) (args bundles : List (List NetId))
+pub behind_law : (y : List NetId) (mid new : List SizedCell) (rst rst_then at late : ℕ) (p q : Part) (args bundles : List (List NetId))
     (raw : List NetId)
     → Extends mid new → rst_then ≡ rst → late ≡ at + p.latency → bundles ≡ raw ∷ [] → q.ins ≡ p.out ∷ [] → q.period ≡ p.period
     → ((vs : List (List ℕ)) → AllAreWords p.ins vs → AllAreWords (p.out ∷ []) (p.means vs ∷ []))
-    → KeepsLaw mid rst at p args raw → IfOk r (λ y. KeepsLaw new rst_then late q bundles y) → IfOk r (λ y. KeepsLaw new rst at (part_behind p q) args y)
-behind_law (Ok y) mid new rst rst_then at late p q args bundles raw up er el eb follows period typed first second =
+    → KeepsLaw mid rst at p args raw → KeepsLaw new rst_then late q bundles y → KeepsLaw new rst at (part_behind p q) args y
+behind_law y mid new rst rst_then at late p q args bundles raw up er el eb follows period typed first second =
     let then : KeepsLaw new rst (at + p.latency) q (raw ∷ []) y = rw (er, el, eb) at second in
     λ all e run r start reset. behind_blocks _ at p q _ (wave_of run start raw) (wave_of run start y) follows period typed
     (first all (extends_trans up e) run r start reset) (then all e run r start reset)
-behind_law (Err x) mid new rst rst_then at late p q args bundles raw up er el eb follows period typed first second = tt

@@ -19,7 +19,7 @@ use Rattle.ae_flow.specs.Flow.{Callee, callees, first_result}
 use Rattle.ae_flow.specs.Fitted.{AreFitted, elements_stream}
 use Rattle.ae_ports.specs.Ports.{streams_of}
 use Rattle.ae_flow.specs.Laws.{FlowsFit}
-use Rattle.ae_lower.specs.Growth.{Adds, GrowsBy, IsBuilt, Spends}
+use Rattle.ae_lower.specs.Growth.{AddsMulsAndMemories, GrowsBy, IsBuilt, Spends}
 use Rattle.ae_lower.specs.Delaying.{AreDelayed, delay_load}
 use Rattle.ae_lower.specs.Lowering.{AreChosen, IsNodeAt, arrivals_in, bodies_part, instance_costs, lane_nets, timings_in}
 use Rattle.ae_lower.proofs.Growing.{by_trans, spends_trans}
@@ -53,14 +53,6 @@ node_there instances k j s func there =
       most = subst (λ (c : OwnCosts). sum_by (λ (x : NodeTiming). x.load) (take j ts) + t.load ≤ c.load) (sym (costs_are instances k s func)) (omega arith);
     }
 
-pub another_node : (instances : List StFuncTree) (k j at rst : ℕ) (s : StFuncTree) (ins items : List (List NetId)) (old mid new : Circuit)
-    → slice_get instances k ≡ Some s → j < length s.nodes → AreLowered instances k at rst s ins old mid j items
-    → ((f : StFuncTree) (n : StNodeTree) (t : NodeTiming) → IsNodeAt instances k j f n t → GrowsBy mid new t.load)
-    → GrowsBy old new (instance_costs instances k).load
-another_node instances k j at rst s ins items old mid new func there was grows =
-    let h = node_there instances k j s func there in
-    by_trans (instance_costs instances k).load h.most was.grows (grows s h.node h.timing h.is_at)
-
 -- ---- results
 
 pub result_below : (instances : List StFuncTree) (k : ℕ) (s : StFuncTree) (chosen : List ℕ) → IsSound instances → slice_get instances k ≡ Some s
@@ -70,11 +62,12 @@ result_below instances k s chosen sound func same r i found =
     omega (arith, l, items_many s)
 
 -- the delays of the results
-pub results_grow : (instances : List StFuncTree) (k at rst : ℕ) (s : StFuncTree) (ins items : List (List NetId)) (old mid new : Circuit) (waits : List ℕ)
+pub results_fit : (instances : List StFuncTree) (k at rst : ℕ) (s : StFuncTree) (ins items : List (List NetId)) (old mid : Circuit) (waits : List ℕ)
     → IsSound instances → slice_get instances k ≡ Some s → waits ≡ joint_slacks (arrivals_in instances k s) s.results
-    → AreLowered instances k at rst s ins old mid (length s.nodes) items → GrowsBy mid new (delay_load items waits s.results)
-    → GrowsBy old new (instance_costs instances k).load
-results_grow instances k at rst s ins items old mid new waits sound func ew was grows =
+    → AreLowered instances k at rst s ins old mid (length s.nodes) items
+    → sum_by (λ (t : NodeTiming). t.load) (take (length s.nodes) (timings_in instances k s)) + delay_load items waits
+    s.results ≤ (instance_costs instances k).load
+results_fit instances k at rst s ins items old mid waits sound func ew was =
     let ts : List NodeTiming = timings_in instances k s in
     let arrivals : List ℕ = arrivals_in instances k s in
     let all : take (length s.nodes) ts ≡ ts = take_all (length s.nodes) ts (omega (arith, timings_long instances k s)) in
@@ -83,15 +76,20 @@ results_grow instances k at rst s ins items old mid new waits sound func ew was 
     (length s.ins + length s.nodes) items arrivals waits s.results stand (result_below instances k s s.results sound func refl) ew in
     let nodes : sum_by (λ (t : NodeTiming). t.load) (take (length s.nodes) ts) ≡ sum_by (λ (t : NodeTiming). t.load) ts = ap
     (sum_by (λ (t : NodeTiming). t.load)) all in
-    let most : sum_by (λ (t : NodeTiming). t.load) (take (length s.nodes) ts) + delay_load items waits s.results ≤ (instance_costs instances k).load =
     subst (λ (c : OwnCosts). sum_by (λ (t : NodeTiming). t.load) (take (length s.nodes) ts) + delay_load items waits s.results ≤ c.load)
-    (sym (costs_are instances k s func)) (omega (arith, delays, nodes)) in
-    by_trans (instance_costs instances k).load most was.grows grows
+    (sym (costs_are instances k s func)) (omega (arith, delays, nodes))
+
+pub results_grow : (instances : List StFuncTree) (k at rst : ℕ) (s : StFuncTree) (ins items : List (List NetId)) (old mid new : Circuit) (waits : List ℕ)
+    → IsSound instances → slice_get instances k ≡ Some s → waits ≡ joint_slacks (arrivals_in instances k s) s.results
+    → AreLowered instances k at rst s ins old mid (length s.nodes) items → GrowsBy mid new (delay_load items waits s.results)
+    → GrowsBy old new (instance_costs instances k).load
+results_grow instances k at rst s ins items old mid new waits sound func ew was grows =
+    by_trans (instance_costs instances k).load (results_fit instances k at rst s ins items old mid waits sound func ew was) was.grows grows
 
 pub results_add : (instances : List StFuncTree) (k : ℕ) (s : StFuncTree) (old mid new : Circuit) (most left less : ℕ) → slice_get instances k ≡ Some s
     → most ≤ chain_mems (item_layouts s) (all_uses s (timings_in instances k s))
     → HaveSpent instances k s old mid (length s.nodes) most left → Spends mid new 0 0 left less
-    → Adds old new (instance_costs instances k).muls (instance_costs instances k).mems
+    → AddsMulsAndMemories old new (instance_costs instances k).muls (instance_costs instances k).mems
 results_add instances k s old mid new most left less func few was adds =
     let ts : List NodeTiming = timings_in instances k s in
     let all : take (length s.nodes) ts ≡ ts = take_all (length s.nodes) ts (omega (arith, timings_long instances k s)) in
@@ -100,7 +98,7 @@ results_add instances k s old mid new most left less func few was adds =
     let mems : sum_by (λ (t : NodeTiming). t.mems) (take (length s.nodes) ts) ≡ sum_by (λ (t : NodeTiming). t.mems) ts = ap
     (sum_by (λ (t : NodeTiming). t.mems)) all in
     let whole = spends_trans was adds in
-    subst (λ (c : OwnCosts). Adds old new c.muls c.mems) (sym (costs_are instances k s func)) (record {
+    subst (λ (c : OwnCosts). AddsMulsAndMemories old new c.muls c.mems) (sym (costs_are instances k s func)) (record {
       muls = omega (arith, muls, whole.muls);
       memories = omega (arith, mems, few, whole.memories);
       whole = whole.whole;
@@ -129,19 +127,9 @@ results_chosen instances k at rst s ins items old mid new waits results sound fu
 
 -- ---- bodies
 
-few_le : (lane copies load : ℕ) → lane ≤ copies → lane * load ≤ copies * load
-few_le lane copies load h = mul-le-mul_right load h
-
-next_le : (lane copies load : ℕ) → lane < copies → lane * load + load ≤ copies * load
+pub next_le : (lane copies load : ℕ) → lane < copies → lane * load + load ≤ copies * load
 next_le lane copies load h =
     let up : (lane + 1) * load ≤ copies * load = mul-le-mul_right load (let z : lane + 1 ≤ copies = omega arith in z) in omega (arith, up)
-
-pub fewer_bodies : (old new : Circuit) (lane copies load : ℕ) → lane ≤ copies → GrowsBy old new (lane * load) → GrowsBy old new (copies * load)
-fewer_bodies old new lane copies load h g = record { grows = g.grows; cells = (let l = few_le lane copies load h in let c = g.cells in omega (arith, c, l)) }
-
-pub another_body : (old mid new : Circuit) (lane copies load : ℕ) → lane < copies → GrowsBy old mid (lane * load) → GrowsBy mid new load
-    → GrowsBy old new (copies * load)
-another_body old mid new lane copies load h = by_trans (copies * load) (next_le lane copies load h)
 
 pub own_lane : (instances : List StFuncTree) (m copies lane : ℕ) (args own given : List (List NetId)) (old new : Circuit) → lane < copies
     → Extends old.cells new.cells → own ≡ map (lane_nets copies lane) args → given ≡ own

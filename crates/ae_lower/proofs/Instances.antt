@@ -9,7 +9,7 @@ use Rattle.ae_netlist.specs.declared.cell.NetId.{NetId}
 use Rattle.ae_netlist.specs.declared.cell.SizedCell.{SizedCell}
 use Rattle.ae_netlist.specs.Circuit.{Circuit, Extends}
 use Rattle.ae_netlist.proofs.Gets.{get_push_cases}
-use Rattle.ae_clocked.proofs.Adding.{grows_refl}
+use Rattle.ae_gates.proofs.Adding.{grows_refl}
 use Rattle.ae_seq.specs.Typing.{grown}
 use Rattle.ae_ops.specs.Waves.{AreNets, Wave, wave_of}
 use Rattle.ae_ops.specs.Blocks.{AreBundles, AllHold, HoldsWords, Stream, stream_of, stream_widths}
@@ -19,7 +19,7 @@ use Rattle.ae_rewrite.specs.Sound.{item_layout, item_layouts}
 use Rattle.ae_delay.specs.Costs.{NodeTiming}
 use Rattle.ae_flow.specs.Flow.{Callee, callees, first_result, item_words, node_words, words_at}
 use Rattle.ae_ports.specs.Ports.{streams_of}
-use Rattle.ae_lower.specs.Growth.{Adds, GrowsBy, Spends}
+use Rattle.ae_lower.specs.Growth.{AddsMulsAndMemories, GrowsBy, Spends}
 use Rattle.ae_lower.specs.Lowering.{AreChosen, AreItems, AreStanding, IsItem, arrivals_in, instance_costs, lane_nets, timings_in}
 use Rattle.ae_lower.proofs.Growing.{adds_trans, adds_up, by_trans, spends_trans, spends_up}
 use Rattle.ae_lower.proofs.Delaying.{nets_grow}
@@ -38,7 +38,7 @@ pub record AreLowered (instances : List StFuncTree) (k at rst : ℕ) (s : StFunc
 pub record AreSpread (instances : List StFuncTree) (m at rst copies : ℕ) (args : List (List NetId)) (old new : Circuit) (count : ℕ)
     (out : List NetId) : Type 0 where
   pub grows : GrowsBy old new (count * (instance_costs instances m).load)
-  pub adds : Adds old new (count * (instance_costs instances m).muls) (count * (instance_costs instances m).mems)
+  pub adds : AddsMulsAndMemories old new (count * (instance_costs instances m).muls) (count * (instance_costs instances m).mems)
   pub lanes : (f : StFuncTree) → slice_get instances m ≡ Some f
       → AreLanes new.cells rst at (callees (take m instances)) f (instance_costs instances m).latency copies args count out
 
@@ -97,7 +97,7 @@ param_item cells rst at known s ins i nets h found =
 pub grows_none : (a : Circuit) (n : ℕ) → GrowsBy a a n
 grows_none a n = record { grows = grows_refl a; cells = omega arith }
 
-adds_none : (a : Circuit) → Adds a a 0 0
+adds_none : (a : Circuit) → AddsMulsAndMemories a a 0 0
 adds_none a = record { muls = omega arith; memories = omega arith; whole = λ h. h }
 
 pub no_nodes : (instances : List StFuncTree) (k at rst : ℕ) (s : StFuncTree) (ins items : List (List NetId)) (old : Circuit)
@@ -167,7 +167,7 @@ more_of n k = omega arith
 pub more_bodies : (instances : List StFuncTree) (m at rst copies : ℕ) (args results : List (List NetId)) (old mid new : Circuit) (count : ℕ)
     (out all first : List NetId) → ((f : StFuncTree) → slice_get instances m ≡ Some f → 1 ≤ length f.results)
     → all ≡ out ++ first → slice_get results 0 ≡ Some first → GrowsBy mid new (instance_costs instances m).load
-    → Adds mid new (instance_costs instances m).muls (instance_costs instances m).mems
+    → AddsMulsAndMemories mid new (instance_costs instances m).muls (instance_costs instances m).mems
     → ((f : StFuncTree) → slice_get instances m ≡ Some f → AreChosen new.cells rst at (callees (take m instances)) f (map (lane_nets copies count) args)
     (instance_costs instances m).latency f.results results)
     → AreSpread instances m at rst copies args old mid count out → AreSpread instances m at rst copies args old new (count + 1) all

@@ -31,7 +31,7 @@ use Rattle.ae_flow.specs.Flow.{Callee, callee, callee_at, callees, first_result,
 use Rattle.ae_flow.specs.Fitted.{FitsBody, FitsNode, FitsOp, elements_stream}
 use Rattle.ae_ports.specs.Ports.{streams_of}
 use Rattle.ae_flow.specs.Laws.{FlowsFit}
-use Rattle.ae_lower.specs.Growth.{Adds, GrowsBy, IsBuilt, Spends}
+use Rattle.ae_lower.specs.Growth.{AddsMulsAndMemories, GrowsBy, IsBuilt, Spends}
 use Rattle.ae_lower.specs.Nodes.{CallsNothing, IsReady, arguments_of, node_part, plain_costs}
 use Rattle.ae_lower.specs.Delaying.{AreDelayed, delay_load}
 use Rattle.ae_lower.specs.Lowering.{AreChosen, AreItems, AreStanding, IsItem, IsLight, IsNodeAt, IsTimed, arrivals_in, bodies_part, instance_costs, timings_in}
@@ -269,30 +269,20 @@ call_light instances k j m at s n own f h c =
 
 -- ---- what comes of a node
 
--- the registers before the arguments, which wait so long
+-- the registers before the arguments, which wait so long, and what stands behind them
+pub node_fits : (instances : List StFuncTree) (k j at : ℕ) (s : StFuncTree) (n : StNodeTree) (own waits : List ℕ) (cells : List SizedCell)
+    (items : List (List NetId)) (load : ℕ) → (h : IsPlaced instances k j at s n own) → AreStanding cells s (length s.ins + j) items
+    → waits ≡ joint_slacks (arrivals_in instances k s) n.args → load ≤ (node_costs (all_costs (take k instances)) (item_layouts s) n).load
+    → delay_load items waits n.args + load ≤ h.timing.load
+node_fits instances k j at s n own waits cells items load h stand ew l =
+    omega (arith, h.facts.load, standing_delays cells s (length s.ins + j) items (arrivals_in instances k s) waits n.args stand h.below ew, l)
+
 pub node_grows : (instances : List StFuncTree) (k j at : ℕ) (s : StFuncTree) (n : StNodeTree) (own waits : List ℕ) (cells : List SizedCell)
     (items : List (List NetId)) (old mid new : Circuit) (load : ℕ) → (h : IsPlaced instances k j at s n own) → AreStanding cells s (length s.ins + j) items
     → waits ≡ joint_slacks (arrivals_in instances k s) n.args → load ≤ (node_costs (all_costs (take k instances)) (item_layouts s) n).load
     → GrowsBy old mid (delay_load items waits n.args) → GrowsBy mid new load → GrowsBy old new h.timing.load
 node_grows instances k j at s n own waits cells items old mid new load h stand ew l a b =
-    by_trans h.timing.load (omega (
-      arith,
-      h.facts.load,
-      standing_delays cells s (length s.ins + j) items
-          (arrivals_in instances k s) waits n.args stand h.below ew,
-      l,
-    )) a b
-
-pub args_grow : (instances : List StFuncTree) (k j at : ℕ) (s : StFuncTree) (n : StNodeTree) (own waits : List ℕ) (cells : List SizedCell)
-    (items : List (List NetId)) (old mid : Circuit) → (h : IsPlaced instances k j at s n own) → AreStanding cells s (length s.ins + j) items
-    → waits ≡ joint_slacks (arrivals_in instances k s) n.args → GrowsBy old mid (delay_load items waits n.args) → GrowsBy old mid h.timing.load
-args_grow instances k j at s n own waits cells items old mid h stand ew a =
-    let most : delay_load items waits n.args ≤ h.timing.load = omega (
-      arith,
-      h.facts.load,
-      standing_delays cells s (length s.ins + j) items (arrivals_in instances k s) waits n.args stand h.below ew,
-    ) in
-    record { grows = a.grows; cells = (let c = a.cells in omega (arith, c, most)) }
+    by_trans h.timing.load (node_fits instances k j at s n own waits cells items load h stand ew l) a b
 
 -- the item of a node
 pub node_placed : (instances : List StFuncTree) (told : List (List ℕ)) (k j at rst : ℕ) (s : StFuncTree) (n : StNodeTree) (own waits : List ℕ)
@@ -389,14 +379,14 @@ call_args instances k m s n f cells args c bundles z found =
 
 pub call_spends : (old mid new : Circuit) (copies : ℕ) (f own : OwnCosts) (t : NodeTiming) (before left : ℕ) → own ≡ body_costs copies f → t.muls ≡ own.muls
     → t.mems ≡ own.mems
-    → Spends old mid 0 0 before left → Adds mid new (copies * f.muls) (copies * f.mems) → Spends old new t.muls t.mems before left
+    → Spends old mid 0 0 before left → AddsMulsAndMemories mid new (copies * f.muls) (copies * f.mems) → Spends old new t.muls t.mems before left
 call_spends old mid new copies f own t before left is muls mems a b =
     let em : own.muls ≡ copies * f.muls = ap (λ (o : OwnCosts). o.muls) is in
     let en : own.mems ≡ copies * f.mems = ap (λ (o : OwnCosts). o.mems) is in
     spends_up (omega (arith, em, muls)) (omega (arith, en, mems)) (spends_more a b)
 
 pub plain_spends : (old mid new : Circuit) (plain own : OwnCosts) (t : NodeTiming) (before left : ℕ) → plain ≡ own → t.muls ≡ own.muls → t.mems ≡ own.mems
-    → Spends old mid 0 0 before left → Adds mid new plain.muls plain.mems → Spends old new t.muls t.mems before left
+    → Spends old mid 0 0 before left → AddsMulsAndMemories mid new plain.muls plain.mems → Spends old new t.muls t.mems before left
 plain_spends old mid new plain own t before left is muls mems a b =
     let em : plain.muls ≡ own.muls = ap (λ (o : OwnCosts). o.muls) is in
     let en : plain.mems ≡ own.mems = ap (λ (o : OwnCosts). o.mems) is in

@@ -29,7 +29,7 @@ use Rattle.ae_delay.specs.Timings.{AreTimes, Times}
 use Rattle.ae_flow.specs.Flow.{callees}
 use Rattle.ae_ports.specs.Ports.{streams_of, SizedPort, input_cell, input_ports, lane_ports, output_ports, ports_from, reset_port, stream_ports, word_ports}
 use Rattle.ae_lower.specs.Circuits.{MakesResults, last_of, result_streams}
-use Rattle.ae_lower.specs.Growth.{Adds, GrowsBy}
+use Rattle.ae_lower.specs.Growth.{AddsMulsAndMemories, GrowsBy}
 use Rattle.ae_lower.specs.Lowering.{AreChosen, IsLight, costs_in, instance_costs}
 use Rattle.ae_lower.specs.PortNets.{AddsOutputs, bundles_from, nets_from}
 use Rattle.ae_lower.specs.Ported.{HasBegun, IsPorted}
@@ -222,7 +222,7 @@ chosen_last instances s cells rst k ins ours bundles theirs zeroed last mine sam
 
 -- what has grown behind the inputs, with its outputs, has the ports and is within the costs
 pub ported_made : (ins : List StTree) (outs : List Stream) (costs : OwnCosts) (a b c : Circuit) (bundles : List (List NetId)) → HasBegun ins a
-    → GrowsBy a b costs.load → Adds a b costs.muls costs.mems
+    → GrowsBy a b costs.load → AddsMulsAndMemories a b costs.muls costs.mems
     → AddsOutputs b c (output_ports outs) (all_nets bundles) → IsFormed c.cells → HaveNets c.cells c.outlets → IsPorted ins outs costs c
     × (map (λ (o : Outlet). o.net) c.outlets ≡ all_nets bundles)
 ported_made ins outs costs a b c bundles begun grown adds shown formed have =
@@ -249,7 +249,7 @@ ported_made ins outs costs a b c bundles begun grown adds shown formed have =
 pub circuit_made : (instances : List StFuncTree) (s : StFuncTree) (a b c : Circuit) (bundles : List (List NetId)) → ((k : ℕ) × IsSoundFunc k s)
     → slice_get instances (last_of instances) ≡ Some s → HasBegun s.ins a
     → GrowsBy a b (instance_costs instances (last_of instances)).load
-    → Adds a b (instance_costs instances (last_of instances)).muls (instance_costs instances (last_of instances)).mems
+    → AddsMulsAndMemories a b (instance_costs instances (last_of instances)).muls (instance_costs instances (last_of instances)).mems
     → AreChosen b.cells 0 0 (callees (take (last_of instances) instances)) s (bundles_from 1 (streams_of s.ins))
     (instance_costs instances (last_of instances)).latency s.results bundles
     → AddsOutputs b c (output_ports (result_streams s)) (all_nets bundles) → IsFormed c.cells → HaveNets c.cells c.outlets

@@ -3,7 +3,7 @@ use Rattle.std.specs.Prelude.{◌≡◌, ℕ, ◌+◌, ◌*◌, ◌≤◌, List,
 use Rattle.ae_netlist.specs.declared.cell.NetId.{NetId}
 use Rattle.ae_netlist.specs.Circuit.{Circuit}
 use Rattle.ae_netlist.specs.Counts.{AreWhole, count_of, is_memory, is_mul}
-use Rattle.ae_clocked.specs.Signals.{Grows}
+use Rattle.ae_gates.specs.Cells.{Grows}
 use Rattle.ae_ops.specs.Waves.{AreNets}
 use Rattle.ae_ops.specs.Blocks.{KeepsLaw, Part, stream_widths}
 
@@ -13,7 +13,7 @@ pub record GrowsBy (old new : Circuit) (load : ℕ) : Type 0 where
   pub cells : length new.cells ≤ length old.cells + 16 * load
 
 -- by exactly so many products and at most so many memories; memories stay whole
-pub record Adds (old new : Circuit) (products most : ℕ) : Type 0 where
+pub record AddsMulsAndMemories (old new : Circuit) (products most : ℕ) : Type 0 where
   pub muls : count_of is_mul new.cells ≡ count_of is_mul old.cells + products
   pub memories : count_of is_memory new.cells ≤ count_of is_memory old.cells + most
   pub whole : AreWhole old.cells → AreWhole new.cells

@@ -4,14 +4,16 @@ use Rattle.ae_netlist.specs.declared.cell.NetId.{NetId}
 use Rattle.ae_netlist.specs.declared.cell.SizedCell.{SizedCell}
 use Rattle.ae_ops.specs.Waves.{AreNets}
 use Rattle.ae_ops.specs.Blocks.{KeepsLaw, Part, stream_of, stream_widths}
-use Rattle.ae_rewrite.specs.StProgramTree.{StNodeTree, StFuncTree}
+use Rattle.ae_rewrite.specs.StProgramTree.{StNodeTree, StFuncTree, st_func_trees}
 use Rattle.ae_rewrite.specs.Sound.{item_layout, item_layouts, IsSound}
 use Rattle.ae_delay.specs.declared.own.OwnCosts.{OwnCosts}
 use Rattle.ae_delay.specs.Costs.{NodeTiming, all_costs, arrivals_of, func_costs, node_timings}
 use Rattle.ae_delay.specs.Timings.{AreArrivals}
+use Rattle.ae_retime.specs.Slacks.{AreSlacks}
 use Rattle.ae_flow.specs.Flow.{Callee, callee, item_words, words_at}
 use Rattle.ae_flow.specs.Fitted.{AreFitted, elements_stream}
 use Rattle.ae_ports.specs.Ports.{streams_of}
+use Rattle.ae_lower.specs.declared.calls.TimedProgram.{TimedProgram}
 use Rattle.ae_lower.specs.Parts.{mapped_by, plain_part}
 
 -- item i of an instance as a part, where its blocks arrive so many clocks after the parameters
@@ -59,6 +61,14 @@ pub record IsTimed (instances : List StFuncTree) (told : List (List ℕ)) : Type
   pub sound : IsSound instances
   pub fitted : AreFitted instances
   pub arrivals : AreArrivals instances told
+
+abbrev pub instances_of : TimedProgram → List StFuncTree
+instances_of whole = st_func_trees whole.program.now
+
+-- a program whose operators fit, with its arrivals and its slacks
+pub record IsTimedProgram (whole : TimedProgram) : Type 0 where
+  pub timed : IsTimed (instances_of whole) whole.timing.now.arrivals
+  pub slacks : AreSlacks (instances_of whole) whole.slacks.now
 
 -- instance number k, so light that each of its items arrives early enough (no item arrives later than the load)
 pub record IsLight (instances : List StFuncTree) (k at : ℕ) (s : StFuncTree) : Type 0 where

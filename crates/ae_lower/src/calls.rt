@@ -3,18 +3,18 @@
 ghost use Rattle.std.specs.Prelude.{◌≡◌, ◌≤◌, ◌<◌, ◌+◌, ◌*◌, ◌++◌, ◌∷◌, [], ℕ, List, length, map, take, IfOk, OnOk, Some, slice_get, get_or};
 ghost use Rattle.std.specs.Option.{option_and_then};
 ghost use Rattle.ae_netlist.specs.declared.cell.NetId.{NetId as Net};
-ghost use Rattle.ae_clocked.specs.Signals.{IsFullAt};
+ghost use Rattle.ae_netlist.specs.Room.{HasRoom};
 ghost use Rattle.ae_clocked.specs.Phases.{Belongs, KeepsCounters};
 ghost use Rattle.ae_clocked.specs.KeptRings.{RingsBelong};
 ghost use Rattle.ae_ops.specs.Blocks.{AreBundles};
-ghost use Rattle.ae_rewrite.specs.StProgramTree.{StFuncTree as Tree, StNodeTree as Node, st_func_trees};
+ghost use Rattle.ae_rewrite.specs.StProgramTree.{StFuncTree as Tree, StNodeTree as Node};
 ghost use Rattle.ae_delay.specs.Costs.{NodeTiming, latest};
-ghost use Rattle.ae_retime.specs.Slacks.{AreSlacks, joint_slacks};
+ghost use Rattle.ae_retime.specs.Slacks.{joint_slacks};
 ghost use Rattle.ae_flow.specs.Flow.{callees};
 ghost use Rattle.ae_flow.specs.Fitted.{elements_stream};
 ghost use Rattle.ae_ports.specs.Ports.{streams_of};
-ghost use Rattle.ae_lower.specs.Growth.{Adds, GrowsBy, IsBuilt, Spends};
-ghost use Rattle.ae_lower.specs.Lowering.{AreChosen, AreItems, AreStanding, IsItem, IsLight, IsNodeAt, IsTimed, arrivals_in, bodies_part, instance_costs, lane_nets};
+ghost use Rattle.ae_lower.specs.Growth.{AddsMulsAndMemories, GrowsBy, IsBuilt, Spends};
+ghost use Rattle.ae_lower.specs.Lowering.{AreChosen, AreItems, AreStanding, IsItem, IsLight, IsNodeAt, IsTimedProgram, arrivals_in, bodies_part, instance_costs, instances_of, lane_nets};
 ghost use Rattle.ae_lower.specs.Sections.{AreSections, HaveSections, IsSectionFor, IsSectionWithin};
 ghost use Rattle.ae_lower.specs.Stretches.{AreNodeCells};
 ghost use Rattle.ae_tidy.specs.Places.{AreMarks};
@@ -26,11 +26,31 @@ use crate::wires::{copied, piece};
 use ae_clocked::{Clocks, Rings};
 use ae_delay::Timing;
 use ae_flow::flows_fit;
-use ae_netlist::{NetFault, Netlist};
+use ae_netlist::Netlist;
 use ae_ops::Bundle;
 use ae_retime::Slacks;
 use ae_rewrite::{StFunc, StNode, StOp, StProgram};
 use std::alloc::{AllocError, Global};
+
+/// A program with its timing and its slacks: when each of its items arrives, in clocks after its block, and how many clocks
+/// each argument and each result waits. Lowering reads it and never changes it.
+#[derive(Clone, Copy)]
+pub struct TimedProgram<'a> {
+    pub program: &'a StProgram,
+    pub timing: &'a Timing,
+    pub slacks: &'a Slacks,
+}
+
+// An instance whose block 0 begins in some clock: what all its nodes share.
+#[derive(Clone, Copy)]
+struct InstanceAt<'a> {
+    whole: TimedProgram<'a>,
+    number: u32,
+    // The clock after reset in which its block 0 begins.
+    at: u32,
+    // How often each of its items is read.
+    readers: &'a Vec<u32>,
+}
 
 // Instance number k.
 pub fn instance(p: &StProgram, k: u32) -> &StFunc
@@ -195,45 +215,46 @@ pub fn lower_instance(
     alloc: Global,
     nl: &mut Netlist,
     clocks: &mut Clocks,
-    p: &StProgram,
-    a: &Timing,
-    slacks: &Slacks,
+    whole: &TimedProgram<'_>,
     k: u32,
     ins: &[Bundle],
     at: u32,
     marks: &mut Vec<u32>,
     sections: &mut Vec<Section>,
-) -> Result<Vec<Bundle>, NetFault>
+) -> Result<Vec<Bundle>, AllocError>
     requires belongs { Belongs clocks.old nl.old.cells }
-    requires timed { IsTimed (st_func_trees p.now) a.now.arrivals }
-    requires slacks { AreSlacks (st_func_trees p.now) slacks.now }
-    requires light { (s : Tree) × IsLight (st_func_trees p.now) k at s }
-    requires ins { (s : Tree) → slice_get (st_func_trees p.now) k ≡ Some s → AreBundles nl.old.cells (streams_of s.ins) ins.now }
-    ensures belongs { Belongs clocks.new nl.new.cells }
-    ensures keeps { KeepsCounters clocks.old clocks.new }
-    ensures grows { GrowsBy nl.old nl.new (instance_costs (st_func_trees p.now) k).load }
-    ensures adds { OnOk result (Adds nl.old nl.new (instance_costs (st_func_trees p.now) k).muls (instance_costs (st_func_trees p.now) k).mems) }
-    ensures full { IsFullAt result nl.new }
-    ensures results { IfOk result (λ v. (s : Tree) → slice_get (st_func_trees p.now) k ≡ Some s → AreChosen nl.new.cells clocks.old.rst at (callees (take k (st_func_trees p.now))) s ins.now (instance_costs (st_func_trees p.now) k).latency s.results v.items) }
-    ensures marks { OnOk result ((s : Tree) (count : ℕ) → slice_get (st_func_trees p.now) k ≡ Some s → AreMarks (length nl.old.cells) count marks.old.items → AreMarks (length nl.new.cells) (count + length s.nodes) marks.new.items) }
-    ensures nodes { OnOk result ((s : Tree) → slice_get (st_func_trees p.now) k ≡ Some s → marks.old.items ≡ [] → AreNodeCells (st_func_trees p.now) k s nl.new.cells (length nl.old.cells) marks.new.items) }
+    requires whole { IsTimedProgram whole.now }
+    requires light { (s : Tree) × IsLight (instances_of whole.now) k at s }
+    requires ins { (s : Tree) → slice_get (instances_of whole.now) k ≡ Some s → AreBundles nl.old.cells (streams_of s.ins) ins.now }
+    requires room { HasRoom nl.old (16 * (instance_costs (instances_of whole.now) k).load) }
+    ensures belongs { OnOk result (Belongs clocks.new nl.new.cells) }
+    ensures keeps { OnOk result (KeepsCounters clocks.old clocks.new) }
+    ensures grows { OnOk result (GrowsBy nl.old nl.new (instance_costs (instances_of whole.now) k).load) }
+    ensures adds { OnOk result (AddsMulsAndMemories nl.old nl.new (instance_costs (instances_of whole.now) k).muls (instance_costs (instances_of whole.now) k).mems) }
+    ensures results { IfOk result (λ v. (s : Tree) → slice_get (instances_of whole.now) k ≡ Some s → AreChosen nl.new.cells clocks.old.rst at (callees (take k (instances_of whole.now))) s ins.now (instance_costs (instances_of whole.now) k).latency s.results v.items) }
+    ensures marks { OnOk result ((s : Tree) (count : ℕ) → slice_get (instances_of whole.now) k ≡ Some s → AreMarks (length nl.old.cells) count marks.old.items → AreMarks (length nl.new.cells) (count + length s.nodes) marks.new.items) }
+    ensures nodes { OnOk result ((s : Tree) → slice_get (instances_of whole.now) k ≡ Some s → marks.old.items ≡ [] → AreNodeCells (instances_of whole.now) k s nl.new.cells (length nl.old.cells) marks.new.items) }
     ensures sections { OnOk result (AreSections (length nl.old.cells) sections.old.items
-        → HaveSections (IsSectionWithin (st_func_trees p.now) k) (length nl.old.cells) (length nl.new.cells) sections.old.items sections.new.items) }
+        → HaveSections (IsSectionWithin (instances_of whole.now) k) (length nl.old.cells) (length nl.new.cells) sections.old.items sections.new.items) }
 {
-    let s = instance(p, k);
+    let s = instance(whole.program, k);
     let counts = readers(alloc, s)?;
-    let chains = chains_of(slacks, k);
+    let chains = chains_of(whole.slacks, k);
     let most = waiting_memories(s, chains);
     let mut kept = Rings::new(alloc, most);
     let mut items = all_copied(alloc, ins)?;
+    let within = InstanceAt {
+        whole: *whole,
+        number: k,
+        at,
+        readers: &counts,
+    };
     for j in 0..s.nodes.len() {
         let mark = nl.len();
-        let made = lower_node(
-            alloc, nl, clocks, &mut kept, p, a, slacks, k, j, &items, at, &counts, sections,
-        )?;
+        let made = lower_node(alloc, nl, clocks, &mut kept, &within, j, &items, sections)?;
         keep_item(&mut items, marks, made, mark)?;
     }
-    let waits = result_waits_of(slacks, k);
+    let waits = result_waits_of(whole.slacks, k);
     let cell = nl.len();
     let node = s.nodes.len() as u32;
     begin(
@@ -244,9 +265,10 @@ pub fn lower_instance(
             node,
         },
     )?;
-    joined(
+    let results = joined(
         alloc, nl, clocks, &mut kept, chains, &items, waits, &s.results,
-    )
+    )?;
+    Ok(results)
 }
 
 // Node `j` of an instance, on the items before it.
@@ -256,68 +278,62 @@ fn lower_node(
     nl: &mut Netlist,
     clocks: &mut Clocks,
     kept: &mut Rings,
-    p: &StProgram,
-    a: &Timing,
-    slacks: &Slacks,
-    k: u32,
+    within: &InstanceAt<'_>,
     j: usize,
     items: &[Bundle],
-    at: u32,
-    counts: &Vec<u32>,
     sections: &mut Vec<Section>,
-) -> Result<Bundle, NetFault>
+) -> Result<Bundle, AllocError>
     requires belongs { Belongs clocks.old nl.old.cells }
     requires rings { RingsBelong kept.old clocks.old.rst nl.old.cells }
-    requires timed { IsTimed (st_func_trees p.now) a.now.arrivals }
-    requires slacks { AreSlacks (st_func_trees p.now) slacks.now }
-    requires light { (s : Tree) × IsLight (st_func_trees p.now) k at s }
-    requires node { (s : Tree) → slice_get (st_func_trees p.now) k ≡ Some s → j < length s.nodes }
-    requires items { (s : Tree) → slice_get (st_func_trees p.now) k ≡ Some s → AreStanding nl.old.cells s (length s.ins + j) items.now }
-    ensures belongs { Belongs clocks.new nl.new.cells }
-    ensures keeps { KeepsCounters clocks.old clocks.new }
+    requires whole { IsTimedProgram within.now.whole }
+    requires light { (s : Tree) × IsLight (instances_of within.now.whole) within.now.number within.now.at s }
+    requires node { (s : Tree) → slice_get (instances_of within.now.whole) within.now.number ≡ Some s → j < length s.nodes }
+    requires items { (s : Tree) → slice_get (instances_of within.now.whole) within.now.number ≡ Some s → AreStanding nl.old.cells s (length s.ins + j) items.now }
+    requires room { (s : Tree) (n : Node) (t : NodeTiming) → IsNodeAt (instances_of within.now.whole) within.now.number j s n t → HasRoom nl.old (16 * t.load) }
+    ensures belongs { OnOk result (Belongs clocks.new nl.new.cells) }
+    ensures keeps { OnOk result (KeepsCounters clocks.old clocks.new) }
     ensures rings { OnOk result (RingsBelong kept.new clocks.old.rst nl.new.cells) }
-    ensures grows { (s : Tree) (n : Node) (t : NodeTiming) → IsNodeAt (st_func_trees p.now) k j s n t → GrowsBy nl.old nl.new t.load }
-    ensures spends { OnOk result ((s : Tree) (n : Node) (t : NodeTiming) → IsNodeAt (st_func_trees p.now) k j s n t → Spends nl.old nl.new t.muls t.mems kept.old.left kept.new.left) }
-    ensures full { IsFullAt result nl.new }
-    ensures item { IfOk result (λ y. (s : Tree) (ins : List (List Net)) → slice_get (st_func_trees p.now) k ≡ Some s
-        → AreItems nl.old.cells clocks.old.rst at (callees (take k (st_func_trees p.now))) s (arrivals_in (st_func_trees p.now) k s) ins (length s.ins + j) items.now
-        → IsItem nl.new.cells clocks.old.rst at (callees (take k (st_func_trees p.now))) s ins (get_or (arrivals_in (st_func_trees p.now) k s) (length s.ins + j) 0) (length s.ins + j) y) }
+    ensures grows { OnOk result ((s : Tree) (n : Node) (t : NodeTiming) → IsNodeAt (instances_of within.now.whole) within.now.number j s n t → GrowsBy nl.old nl.new t.load) }
+    ensures spends { OnOk result ((s : Tree) (n : Node) (t : NodeTiming) → IsNodeAt (instances_of within.now.whole) within.now.number j s n t → Spends nl.old nl.new t.muls t.mems kept.old.left kept.new.left) }
+    ensures item { IfOk result (λ y. (s : Tree) (ins : List (List Net)) → slice_get (instances_of within.now.whole) within.now.number ≡ Some s
+        → AreItems nl.old.cells clocks.old.rst within.now.at (callees (take within.now.number (instances_of within.now.whole))) s (arrivals_in (instances_of within.now.whole) within.now.number s) ins (length s.ins + j) items.now
+        → IsItem nl.new.cells clocks.old.rst within.now.at (callees (take within.now.number (instances_of within.now.whole))) s ins (get_or (arrivals_in (instances_of within.now.whole) within.now.number s) (length s.ins + j) 0) (length s.ins + j) y) }
     ensures sections { OnOk result (AreSections (length nl.old.cells) sections.old.items
-        → HaveSections (IsSectionFor (st_func_trees p.now) k j) (length nl.old.cells) (length nl.new.cells) sections.old.items sections.new.items) }
+        → HaveSections (IsSectionFor (instances_of within.now.whole) within.now.number j) (length nl.old.cells) (length nl.new.cells) sections.old.items sections.new.items) }
 {
     flows_fit();
-    let s = instance(p, k);
-    let arrivals = arrivals_of(a, k);
+    let at = within.at;
+    let s = instance(within.whole.program, within.number);
+    let arrivals = arrivals_of(within.whole.timing, within.number);
     let node = &s.nodes[j];
     let number = j as u32;
-    let waits = waits_of(slacks, k, number);
+    let waits = waits_of(within.whole.slacks, within.number, number);
     let start = start_of(arrivals, waits, &node.args);
-    let chains = chains_of(slacks, k);
+    let chains = chains_of(within.whole.slacks, within.number);
     let cell = nl.len();
     begin(
         sections,
         Section {
             cell,
-            instance: k,
+            instance: within.number,
             node: number,
         },
     )?;
     let args = joined(alloc, nl, clocks, kept, chains, items, waits, &node.args)?;
     match &node.op {
         StOp::Body(m) => {
-            lower_bodies(
+            let made = lower_bodies(
                 alloc,
                 nl,
                 clocks,
-                p,
-                a,
-                slacks,
+                &within.whole,
                 *m,
                 node.copies,
                 &args,
                 at + start,
                 sections,
-            )
+            )?;
+            Ok(made)
         }
         StOp::Word(_)
         | StOp::Join
@@ -327,8 +343,9 @@ fn lower_node(
         | StOp::Move(_)
         | StOp::Fold { .. }
         | StOp::Scan { .. } => {
-            let alone = reads_alone(counts, node);
-            build(alloc, nl, clocks, s, node, &args, at + start, alone)
+            let alone = reads_alone(within.readers, node);
+            let made = build(alloc, nl, clocks, s, node, &args, at + start, alone)?;
+            Ok(made)
         }
     }
 }
@@ -339,39 +356,34 @@ fn lower_bodies(
     alloc: Global,
     nl: &mut Netlist,
     clocks: &mut Clocks,
-    p: &StProgram,
-    a: &Timing,
-    slacks: &Slacks,
+    whole: &TimedProgram<'_>,
     m: u32,
     copies: u32,
     args: &[Bundle],
     at: u32,
     sections: &mut Vec<Section>,
-) -> Result<Bundle, NetFault>
+) -> Result<Bundle, AllocError>
     requires belongs { Belongs clocks.old nl.old.cells }
-    requires timed { IsTimed (st_func_trees p.now) a.now.arrivals }
-    requires slacks { AreSlacks (st_func_trees p.now) slacks.now }
-    requires light { (f : Tree) × IsLight (st_func_trees p.now) m at f }
+    requires whole { IsTimedProgram whole.now }
+    requires light { (f : Tree) × IsLight (instances_of whole.now) m at f }
     requires some { 1 ≤ copies }
-    requires args { (f : Tree) → slice_get (st_func_trees p.now) m ≡ Some f → (slots : ℕ) × AreBundles nl.old.cells (map (elements_stream slots copies) f.ins) args.now }
-    ensures belongs { Belongs clocks.new nl.new.cells }
-    ensures keeps { KeepsCounters clocks.old clocks.new }
-    ensures grows { GrowsBy nl.old nl.new (copies * (instance_costs (st_func_trees p.now) m).load) }
-    ensures adds { OnOk result (Adds nl.old nl.new (copies * (instance_costs (st_func_trees p.now) m).muls) (copies * (instance_costs (st_func_trees p.now) m).mems)) }
-    ensures full { IsFullAt result nl.new }
-    ensures built { IfOk result (λ y. (f : Tree) (slots rounds : ℕ) → slice_get (st_func_trees p.now) m ≡ Some f → slots ≤ rounds
-        → IsBuilt nl.new clocks.old.rst at (bodies_part (callees (take m (st_func_trees p.now))) f slots rounds copies (instance_costs (st_func_trees p.now) m).latency) args.now y) }
+    requires args { (f : Tree) → slice_get (instances_of whole.now) m ≡ Some f → (slots : ℕ) × AreBundles nl.old.cells (map (elements_stream slots copies) f.ins) args.now }
+    requires room { HasRoom nl.old (16 * (copies * (instance_costs (instances_of whole.now) m).load)) }
+    ensures belongs { OnOk result (Belongs clocks.new nl.new.cells) }
+    ensures keeps { OnOk result (KeepsCounters clocks.old clocks.new) }
+    ensures grows { OnOk result (GrowsBy nl.old nl.new (copies * (instance_costs (instances_of whole.now) m).load)) }
+    ensures adds { OnOk result (AddsMulsAndMemories nl.old nl.new (copies * (instance_costs (instances_of whole.now) m).muls) (copies * (instance_costs (instances_of whole.now) m).mems)) }
+    ensures built { IfOk result (λ y. (f : Tree) (slots rounds : ℕ) → slice_get (instances_of whole.now) m ≡ Some f → slots ≤ rounds
+        → IsBuilt nl.new clocks.old.rst at (bodies_part (callees (take m (instances_of whole.now))) f slots rounds copies (instance_costs (instances_of whole.now) m).latency) args.now y) }
     ensures sections { OnOk result (AreSections (length nl.old.cells) sections.old.items
-        → HaveSections (IsSectionWithin (st_func_trees p.now) m) (length nl.old.cells) (length nl.new.cells) sections.old.items sections.new.items) }
+        → HaveSections (IsSectionWithin (instances_of whole.now) m) (length nl.old.cells) (length nl.new.cells) sections.old.items sections.new.items) }
 {
     flows_fit();
     let mut out = Vec::new(alloc);
     for lane in 0..copies {
         let own = lane_of(alloc, args, copies, lane)?;
         let mut inner = Vec::new(alloc);
-        let results = lower_instance(
-            alloc, nl, clocks, p, a, slacks, m, &own, at, &mut inner, sections,
-        )?;
+        let results = lower_instance(alloc, nl, clocks, whole, m, &own, at, &mut inner, sections)?;
         out.extend_from_slice(results[0].nets())?;
     }
     Ok(Bundle::new(out))

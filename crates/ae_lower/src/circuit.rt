@@ -12,13 +12,13 @@ ghost use Rattle.ae_ports.specs.Ports.{input_ports, streams_of};
 ghost use Rattle.ae_tidy.specs.Needed.{IsLean};
 ghost use Rattle.ae_tidy.specs.Places.{AreMarks};
 
-use crate::calls::{instance, lower_instance};
+use crate::calls::{TimedProgram, instance, lower_instance};
 use crate::ports::{add_input, add_inputs, add_results};
 use crate::sections::{Section, copied_sections};
 use ae_clocked::Clocks;
 use ae_delay::Timing;
 use ae_flow::flows_mean;
-use ae_netlist::{Netlist, Port, in_room};
+use ae_netlist::{Netlist, Port};
 use ae_retime::Slacks;
 use ae_rewrite::StProgram;
 use ae_tidy::tidy;
@@ -75,19 +75,22 @@ pub fn lower(
     let mut clocks = Clocks::new(alloc, rst);
     let mut marks = Vec::new(alloc);
     let mut sections = Vec::new(alloc);
-    let results = in_room(lower_instance(
+    let whole = TimedProgram {
+        program: p,
+        timing: a,
+        slacks,
+    };
+    let results = lower_instance(
         alloc,
         &mut nl,
         &mut clocks,
-        p,
-        a,
-        slacks,
+        &whole,
         last,
         &ins,
         0,
         &mut marks,
         &mut sections,
-    ))?;
+    )?;
     add_results(&mut nl, s, &results)?;
     nl.formed();
     let tidied = tidy(alloc, nl, marks)?;

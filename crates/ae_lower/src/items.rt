@@ -9,22 +9,22 @@ ghost use Rattle.ae_moves.specs.Rings.{rings};
 ghost use Rattle.ae_rewrite.specs.StProgramTree.{st_func_tree};
 ghost use Rattle.ae_rewrite.specs.Sound.{item_layout, item_layouts};
 ghost use Rattle.ae_netlist.specs.declared.cell.NetId.{NetId as Net};
-ghost use Rattle.ae_clocked.specs.Signals.{IsFullAt};
+ghost use Rattle.ae_netlist.specs.Room.{HasRoom};
 ghost use Rattle.ae_clocked.specs.Phases.{Belongs, KeepsCounters};
 ghost use Rattle.ae_clocked.specs.KeptRings.{RingsBelong};
 ghost use Rattle.ae_ops.specs.Waves.{AreLate, AreNets, HaveOwnWidths};
-ghost use Rattle.ae_lower.specs.Growth.{Adds, GrowsBy, Spends};
+ghost use Rattle.ae_lower.specs.Growth.{AddsMulsAndMemories, GrowsBy, Spends};
 ghost use Rattle.ae_lower.specs.Delaying.{AreDelayed, delay_load};
 
 use crate::wires::copied;
 use ae_clocked::{Clocks, Rings};
 use ae_delay::layout;
 use ae_moves::rings;
-use ae_netlist::{NetFault, NetId, Netlist};
+use ae_netlist::{NetId, Netlist};
 use ae_ops::{Bundle, delay};
 use ae_rewrite::StFunc;
 use ae_sttype::StType;
-use std::alloc::Global;
+use std::alloc::{AllocError, Global};
 
 /// A bundle, some clocks later: without a cell where it is not later at all, and from 8 clocks on in rings.
 pub fn later(
@@ -33,21 +33,23 @@ pub fn later(
     clocks: &mut Clocks,
     bundle: &Bundle,
     slack: u32,
-) -> Result<Bundle, NetFault>
+) -> Result<Bundle, AllocError>
     requires belongs { Belongs clocks.old nl.old.cells }
     requires nets { HaveOwnWidths nl.old.cells bundle.now }
-    ensures belongs { Belongs clocks.new nl.new.cells }
-    ensures keeps { KeepsCounters clocks.old clocks.new }
-    ensures grows { GrowsBy nl.old nl.new (slack * length bundle.now) }
-    ensures adds { OnOk result (Adds nl.old nl.new 0 (length bundle.now * rings slack)) }
-    ensures full { IsFullAt result nl.new }
+    requires room { HasRoom nl.old (16 * (slack * length bundle.now)) }
+    ensures belongs { OnOk result (Belongs clocks.new nl.new.cells) }
+    ensures keeps { OnOk result (KeepsCounters clocks.old clocks.new) }
+    ensures grows { OnOk result (GrowsBy nl.old nl.new (slack * length bundle.now)) }
+    ensures adds { OnOk result (AddsMulsAndMemories nl.old nl.new 0 (length bundle.now * rings slack)) }
     ensures nets { IfOk result (λ late. (widths : List ℕ) → AreNets nl.old.cells widths bundle.now → AreNets nl.new.cells widths late) }
     ensures late { IfOk result (λ late. AreLate nl.new.cells clocks.old.rst slack bundle.now late) }
 {
     if slack == 0 {
-        return Ok(copied(alloc, bundle)?);
+        let same = copied(alloc, bundle)?;
+        return Ok(same);
     }
-    delay(alloc, nl, clocks, bundle, slack)
+    let late = delay(alloc, nl, clocks, bundle, slack)?;
+    Ok(late)
 }
 
 /// The columns of a layout, or fewer where they do not fit.
@@ -96,16 +98,16 @@ fn waited(
     bundle: &Bundle,
     slack: u32,
     reach: u32,
-) -> Result<Bundle, NetFault>
+) -> Result<Bundle, AllocError>
     requires belongs { Belongs clocks.old nl.old.cells }
     requires rings { RingsBelong kept.old clocks.old.rst nl.old.cells }
     requires nets { HaveOwnWidths nl.old.cells bundle.now }
-    ensures belongs { Belongs clocks.new nl.new.cells }
-    ensures keeps { KeepsCounters clocks.old clocks.new }
+    requires room { HasRoom nl.old (16 * (slack * length bundle.now)) }
+    ensures belongs { OnOk result (Belongs clocks.new nl.new.cells) }
+    ensures keeps { OnOk result (KeepsCounters clocks.old clocks.new) }
     ensures rings { OnOk result (RingsBelong kept.new clocks.old.rst nl.new.cells) }
-    ensures grows { GrowsBy nl.old nl.new (slack * length bundle.now) }
+    ensures grows { OnOk result (GrowsBy nl.old nl.new (slack * length bundle.now)) }
     ensures spends { OnOk result (Spends nl.old nl.new 0 0 kept.old.left kept.new.left) }
-    ensures full { IsFullAt result nl.new }
     ensures nets { IfOk result (λ late. (widths : List ℕ) → AreNets nl.old.cells widths bundle.now → AreNets nl.new.cells widths late) }
     ensures late { IfOk result (λ late. AreLate nl.new.cells clocks.old.rst slack bundle.now late) }
 {
@@ -128,18 +130,18 @@ pub fn joined(
     items: &[Bundle],
     waits: &[u32],
     chosen: &[u32],
-) -> Result<Vec<Bundle>, NetFault>
+) -> Result<Vec<Bundle>, AllocError>
     requires belongs { Belongs clocks.old nl.old.cells }
     requires rings { RingsBelong kept.old clocks.old.rst nl.old.cells }
     requires nets { (i : ℕ) (nets : List Net) → slice_get items.now i ≡ Some nets → HaveOwnWidths nl.old.cells nets }
     requires below { (r i : ℕ) → slice_get chosen.now r ≡ Some i → i < length items.now }
     requires long { length waits.now ≡ length chosen.now }
-    ensures belongs { Belongs clocks.new nl.new.cells }
-    ensures keeps { KeepsCounters clocks.old clocks.new }
+    requires room { HasRoom nl.old (16 * delay_load items.now waits.now chosen.now) }
+    ensures belongs { OnOk result (Belongs clocks.new nl.new.cells) }
+    ensures keeps { OnOk result (KeepsCounters clocks.old clocks.new) }
     ensures rings { OnOk result (RingsBelong kept.new clocks.old.rst nl.new.cells) }
-    ensures grows { GrowsBy nl.old nl.new (delay_load items.now waits.now chosen.now) }
+    ensures grows { OnOk result (GrowsBy nl.old nl.new (delay_load items.now waits.now chosen.now)) }
     ensures spends { OnOk result (Spends nl.old nl.new 0 0 kept.old.left kept.new.left) }
-    ensures full { IsFullAt result nl.new }
     ensures delayed { IfOk result (λ v. AreDelayed nl.old.cells nl.new.cells clocks.old.rst items.now waits.now chosen.now v.items) }
 {
     let mut late = Vec::new(alloc);

@@ -1,9 +1,10 @@
 // Nodes that call nothing.
 
-ghost use Rattle.std.specs.Prelude.{◌≡◌, ◌≢◌, ◌≤◌, ◌+◌, ◌-◌, ◌∷◌, [], ℕ, List, length, if◌then◌else◌, IfOk, OnOk, Err};
+ghost use Rattle.std.specs.Prelude.{◌≡◌, ◌≤◌, ◌+◌, ◌-◌, ◌∷◌, [], ℕ, List, length, if◌then◌else◌, IfOk, OnOk, ◌*◌};
 ghost use Rattle.ae_netlist.specs.declared.cell.SizedCell.{SizedCell};
 ghost use Rattle.ae_netlist.specs.Counts.{AreWhole, count_of, is_memory, is_mul};
-ghost use Rattle.ae_clocked.specs.Signals.{Grows, IsFullAt};
+ghost use Rattle.ae_netlist.specs.Room.{HasRoom};
+ghost use Rattle.ae_gates.specs.Cells.{Grows};
 ghost use Rattle.ae_clocked.specs.Phases.{Belongs, KeepsCounters};
 ghost use Rattle.ae_sttype.specs.StTree.{element_words, st_tree};
 ghost use Rattle.ae_ops.specs.Waves.{AreNets};
@@ -13,7 +14,7 @@ ghost use Rattle.ae_reduce.specs.Reduces.{reduce_part};
 ghost use Rattle.ae_rewrite.specs.StProgramTree.{st_func_tree, st_node_tree, word, join, first, second};
 ghost use Rattle.ae_flow.specs.Flow.{Callee, width_of};
 ghost use Rattle.ae_ports.specs.Ports.{streams_of};
-ghost use Rattle.ae_lower.specs.Growth.{Adds, GrowsBy, IsBuilt};
+ghost use Rattle.ae_lower.specs.Growth.{AddsMulsAndMemories, GrowsBy, IsBuilt};
 ghost use Rattle.ae_lower.specs.Nodes.{CallsNothing, IsNodePart, IsReady, IsReadyNode, PairsArguments, TakesWords, argument_words, arguments_of, moved_fold, node_part, plain_costs};
 
 use crate::stages::{constant, first_width, moving, reducing, scanning};
@@ -21,7 +22,7 @@ use crate::wires::{pairs, parts};
 use ae_clocked::Clocks;
 use ae_delay::layout;
 use ae_gather::Gather;
-use ae_netlist::{NetFault, Netlist};
+use ae_netlist::Netlist;
 use ae_ops::{Bundle, Stage, WordStage};
 use ae_reduce::Reduce;
 use ae_rewrite::{MoveOp, StFunc, StNode, StOp};
@@ -38,18 +39,19 @@ fn place<S: Stage>(
     node: &StNode,
     args: &[Bundle],
     at: u32,
-) -> Result<Bundle, NetFault>
+) -> Result<Bundle, AllocError>
     requires belongs { Belongs clocks.old nl.old.cells }
     requires bundles { AreBundles nl.old.cells (streams_of (arguments_of (st_func_tree s.now) (st_node_tree node.now))) args.now }
     requires does { (known : List Callee) → IsNodePart known (st_func_tree s.now) (st_node_tree node.now) (S.part stage.now) }
-    ensures belongs { Belongs clocks.new nl.new.cells }
-    ensures keeps { KeepsCounters clocks.old clocks.new }
-    ensures grows { GrowsBy nl.old nl.new (plain_costs (st_func_tree s.now) (st_node_tree node.now)).load }
-    ensures adds { OnOk result (Adds nl.old nl.new (plain_costs (st_func_tree s.now) (st_node_tree node.now)).muls (plain_costs (st_func_tree s.now) (st_node_tree node.now)).mems) }
-    ensures full { IsFullAt result nl.new }
+    requires room { HasRoom nl.old (16 * (plain_costs (st_func_tree s.now) (st_node_tree node.now)).load) }
+    ensures belongs { OnOk result (Belongs clocks.new nl.new.cells) }
+    ensures keeps { OnOk result (KeepsCounters clocks.old clocks.new) }
+    ensures grows { OnOk result (GrowsBy nl.old nl.new (plain_costs (st_func_tree s.now) (st_node_tree node.now)).load) }
+    ensures adds { OnOk result (AddsMulsAndMemories nl.old nl.new (plain_costs (st_func_tree s.now) (st_node_tree node.now)).muls (plain_costs (st_func_tree s.now) (st_node_tree node.now)).mems) }
     ensures built { IfOk result (λ y. (known : List Callee) → IsBuilt nl.new clocks.old.rst at (node_part known (plain_costs (st_func_tree s.now) (st_node_tree node.now)).latency (st_func_tree s.now) (st_node_tree node.now)) args.now y) }
 {
-    stage.build(alloc, nl, clocks, args, at)
+    let out = stage.build(alloc, nl, clocks, args, at)?;
+    Ok(out)
 }
 
 /// An operator on words.
@@ -79,7 +81,7 @@ fn fold_and_move(
     moved: &Gather,
     args: &[Bundle],
     at: u32,
-) -> Result<Bundle, NetFault>
+) -> Result<Bundle, AllocError>
     requires belongs { Belongs clocks.old nl.old.cells }
     requires bundles { AreBundles nl.old.cells (reduce_part fold.now).ins args.now }
     requires follows { (gather_part (move_of moved.now)).ins ≡ (reduce_part fold.now).out ∷ [] }
@@ -87,20 +89,21 @@ fn fold_and_move(
     requires typed { (vs : List (List ℕ)) → AllAreWords (reduce_part fold.now).ins vs → AllAreWords ((reduce_part fold.now).out ∷ []) ((reduce_part fold.now).means vs ∷ []) }
     requires early { at ≤ 100000 }
     requires short { (reduce_part fold.now).latency ≤ 100000 }
-    ensures belongs { Belongs clocks.new nl.new.cells }
-    ensures keeps { KeepsCounters clocks.old clocks.new }
-    ensures grows { Grows nl.old nl.new }
-    ensures cells { length nl.new.cells ≤ length nl.old.cells + (moved_fold fold.now moved.now).most_cells }
+    requires room { HasRoom nl.old (moved_fold fold.now moved.now).most_cells }
+    ensures belongs { OnOk result (Belongs clocks.new nl.new.cells) }
+    ensures keeps { OnOk result (KeepsCounters clocks.old clocks.new) }
+    ensures grows { OnOk result (Grows nl.old nl.new) }
+    ensures cells { OnOk result (length nl.new.cells ≤ length nl.old.cells + (moved_fold fold.now moved.now).most_cells) }
     ensures muls { OnOk result (count_of is_mul nl.new.cells ≡ count_of is_mul nl.old.cells + (moved_fold fold.now moved.now).products) }
     ensures memories { OnOk result (count_of is_memory nl.new.cells ≤ count_of is_memory nl.old.cells + (moved_fold fold.now moved.now).most_memories) }
     ensures whole { OnOk result (AreWhole nl.old.cells → AreWhole nl.new.cells) }
-    ensures full { IsFullAt result nl.new }
     ensures bundle { IfOk result (λ y. AreNets nl.new.cells (stream_widths (gather_part (move_of moved.now)).out) y) }
     ensures law { IfOk result (λ y. KeepsLaw nl.new.cells clocks.old.rst at (moved_fold fold.now moved.now) args.now y) }
 {
     let raw = fold.build(alloc, nl, clocks, args, at)?;
     let mid = one_bundle(alloc, raw)?;
-    moved.build(alloc, nl, clocks, &mid, at + fold.latency())
+    let out = moved.build(alloc, nl, clocks, &mid, at + fold.latency())?;
+    Ok(out)
 }
 
 fn one_bundle(alloc: Global, bundle: Bundle) -> Result<Vec<Bundle>, AllocError>
@@ -112,11 +115,10 @@ fn one_bundle(alloc: Global, bundle: Bundle) -> Result<Vec<Bundle>, AllocError>
 }
 
 /// The nets of pairs, lane by lane.
-fn pairs_of(alloc: Global, s: &StFunc, node: &StNode, args: &[Bundle]) -> Result<Bundle, NetFault>
+fn pairs_of(alloc: Global, s: &StFunc, node: &StNode, args: &[Bundle]) -> Result<Bundle, AllocError>
     requires ready { (cells : List SizedCell) × IsReady cells (st_func_tree s.now) (st_node_tree node.now) args.now }
     requires is { (st_node_tree node.now).op ≡ join }
     ensures pairs { IfOk result (PairsArguments (st_func_tree s.now) (st_node_tree node.now) args.now) }
-    ensures fault { result ≢ Err NetFault.Full }
 {
     let count = node.ty.lanes() as usize;
     let k = layout(s, node.args[0] as usize).element_words() as usize;
@@ -131,11 +133,10 @@ fn part_of(
     node: &StNode,
     args: &[Bundle],
     is_first: bool,
-) -> Result<Bundle, NetFault>
+) -> Result<Bundle, AllocError>
     requires ready { (cells : List SizedCell) × IsReady cells (st_func_tree s.now) (st_node_tree node.now) args.now }
     requires is { (st_node_tree node.now).op ≡ (if is_first then first else second) }
     ensures parts { IfOk result (TakesWords (st_func_tree s.now) (st_node_tree node.now) (if is_first then 0 else argument_words (st_func_tree s.now) (st_node_tree node.now) 0 - element_words (st_tree node.now.ty)) args.now) }
-    ensures fault { result ≢ Err NetFault.Full }
 {
     let count = node.ty.lanes() as usize;
     let k = layout(s, node.args[0] as usize).element_words() as usize;
@@ -155,16 +156,16 @@ pub fn build(
     args: &[Bundle],
     at: u32,
     alone: bool,
-) -> Result<Bundle, NetFault>
+) -> Result<Bundle, AllocError>
     requires belongs { Belongs clocks.old nl.old.cells }
     requires ready { IsReady nl.old.cells (st_func_tree s.now) (st_node_tree node.now) args.now }
     requires plain { CallsNothing (st_node_tree node.now).op }
     requires early { at ≤ 100000 }
-    ensures belongs { Belongs clocks.new nl.new.cells }
-    ensures keeps { KeepsCounters clocks.old clocks.new }
-    ensures grows { GrowsBy nl.old nl.new (plain_costs (st_func_tree s.now) (st_node_tree node.now)).load }
-    ensures adds { OnOk result (Adds nl.old nl.new (plain_costs (st_func_tree s.now) (st_node_tree node.now)).muls (plain_costs (st_func_tree s.now) (st_node_tree node.now)).mems) }
-    ensures full { IsFullAt result nl.new }
+    requires room { HasRoom nl.old (16 * (plain_costs (st_func_tree s.now) (st_node_tree node.now)).load) }
+    ensures belongs { OnOk result (Belongs clocks.new nl.new.cells) }
+    ensures keeps { OnOk result (KeepsCounters clocks.old clocks.new) }
+    ensures grows { OnOk result (GrowsBy nl.old nl.new (plain_costs (st_func_tree s.now) (st_node_tree node.now)).load) }
+    ensures adds { OnOk result (AddsMulsAndMemories nl.old nl.new (plain_costs (st_func_tree s.now) (st_node_tree node.now)).muls (plain_costs (st_func_tree s.now) (st_node_tree node.now)).mems) }
     ensures built { IfOk result (λ y. (known : List Callee) → IsBuilt nl.new clocks.old.rst at (node_part known (plain_costs (st_func_tree s.now) (st_node_tree node.now)).latency (st_func_tree s.now) (st_node_tree node.now)) args.now y) }
 {
     match &node.op {
@@ -172,9 +173,18 @@ pub fn build(
             let stage = operation(*op, s, node);
             place(alloc, nl, clocks, &stage, s, node, args, at)
         }
-        StOp::Join => pairs_of(alloc, s, node, args),
-        StOp::First => part_of(alloc, s, node, args, true),
-        StOp::Second => part_of(alloc, s, node, args, false),
+        StOp::Join => {
+            let out = pairs_of(alloc, s, node, args)?;
+            Ok(out)
+        }
+        StOp::First => {
+            let out = part_of(alloc, s, node, args, true)?;
+            Ok(out)
+        }
+        StOp::Second => {
+            let out = part_of(alloc, s, node, args, false)?;
+            Ok(out)
+        }
         StOp::Fixed(words) => {
             let stage = constant(alloc, words, &node.ty)?;
             place(alloc, nl, clocks, &stage, s, node, args, at)
@@ -193,7 +203,8 @@ pub fn build(
             let moved = moving(alloc, MoveOp::Same, raw, &node.ty)?;
             let wait = moved.latency();
             let fold = reducing(alloc, *op, *slots, *lanes, raw, s.budget, wait)?;
-            fold_and_move(alloc, nl, clocks, &fold, &moved, args, at)
+            let out = fold_and_move(alloc, nl, clocks, &fold, &moved, args, at)?;
+            Ok(out)
         }
         StOp::Scan { op, slots, lanes } => {
             let stage = scanning(alloc, *op, *slots, *lanes, &node.ty, s.budget)?;

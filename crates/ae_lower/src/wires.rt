@@ -1,9 +1,9 @@
 // Nets taken from others, without a cell. An error comes only for want of memory.
 
-ghost use Rattle.std.specs.Prelude.{◌≡◌, ◌≢◌, ◌<◌, ◌≤◌, ◌+◌, ◌*◌, length, take, drop, IfOk, Err};
+ghost use Rattle.std.specs.Prelude.{◌≡◌, ◌<◌, ◌≤◌, ◌+◌, ◌*◌, length, take, drop, IfOk};
 ghost use Rattle.ae_lower.specs.Wiring.{ArePairs, AreParts};
 
-use ae_netlist::{NetFault, NetId};
+use ae_netlist::NetId;
 use ae_ops::Bundle;
 use std::alloc::{AllocError, Global};
 
@@ -34,11 +34,10 @@ pub fn parts(
     k: usize,
     from: usize,
     l: usize,
-) -> Result<Bundle, NetFault>
+) -> Result<Bundle, AllocError>
     requires long { length nets.now ≡ count * k }
     requires inside { from + l ≤ k }
     ensures parts { IfOk result (λ b. AreParts nets.now count k from l b) }
-    ensures fault { result ≢ Err NetFault.Full }
 {
     let mut out = Vec::new(alloc);
     for e in 0..count {
@@ -56,11 +55,10 @@ pub fn pairs(
     count: usize,
     k: usize,
     l: usize,
-) -> Result<Bundle, NetFault>
+) -> Result<Bundle, AllocError>
     requires first { length first.now ≡ count * k }
     requires second { length second.now ≡ count * l }
     ensures pairs { IfOk result (λ b. ArePairs first.now second.now count k l b) }
-    ensures fault { result ≢ Err NetFault.Full }
 {
     let mut out = Vec::new(alloc);
     for e in 0..count {

@@ -1,4 +1,5 @@
 pub mod Circuit
 pub mod Counts
-pub mod Runs
+pub mod Room
 pub mod Rows
+pub mod Runs

@@ -6,5 +6,5 @@ mod netlist;
 mod runs;
 
 pub use cell::{Cell, Handshake, NetId, Outlet, Port, SizedCell};
-pub use netlist::{NetFault, Netlist, in_room};
+pub use netlist::{NetFault, Netlist};
 pub use runs::{fill_begins, has_one_run, has_one_run_with};

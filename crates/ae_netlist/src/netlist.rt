@@ -1,7 +1,7 @@
 // Netlists, and how they are built.
 
 ghost use Rattle.std.specs.Option.{option_copied, option_map};
-ghost use Rattle.std.specs.Prelude.{◌≡◌, ◌≢◌, ◌<◌, ◌≤◌, ◌+◌, ◌-◌, ◌^◌, ◌↔◌, ◌++◌, ◌∷◌, [], length, Option, Some, None, slice_get, slice_set, IfOk, Ok, Err, OnOk, OnErr, IfSome, IsSome, true, false};
+ghost use Rattle.std.specs.Prelude.{◌≡◌, ◌<◌, ◌≤◌, ◌+◌, ◌-◌, ◌^◌, ◌↔◌, ◌++◌, ◌∷◌, [], length, Option, Some, None, slice_get, slice_set, IfOk, Err, OnOk, OnErr, IfSome, IsSome, true, false};
 ghost use Rattle.ae_netlist.specs.Circuit.{Circuit, IsNet, IsAllowed, IsFormed, IsMemory, IsRegister, IsWritten, HaveNets, SizedCellFits, depth_of, new_memory, new_register, width_of};
 ghost use Rattle.ae_netlist.specs.Counts.{AreNumbered, IsNumbered, cells_of, count_of, is_input};
 
@@ -36,18 +36,6 @@ impl<T: Drop> From<AllocFailed<T>> for NetFault {
 
     fn from(_: AllocFailed<T>) -> NetFault {
         NetFault::Memory
-    }
-}
-
-/// What a call answers that had room for its cells: an error only for want of memory.
-pub fn in_room<T: Drop>(made: Result<T, NetFault>) -> Result<T, AllocError>
-    requires { made ≢ Err NetFault.Full }
-    ensures { IfOk result (λ t. made ≡ Ok t) }
-{
-    match made {
-        Ok(made) => Ok(made),
-        Err(NetFault::Full) => unreachable!(),
-        Err(NetFault::Memory) => Err(AllocError),
     }
 }
 

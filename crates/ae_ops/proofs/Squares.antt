@@ -1,35 +1,25 @@
 -- A register, and a product behind it.
-use Rattle.std.proofs.Common.{ℕ, ◌≡◌, ◌+◌, List, ◌∷◌, [], length, Result, Ok, Err, OnOk, OnErr, IfOk, arith, add-zero, zero-add}
+use Rattle.std.proofs.Common.{ℕ, ◌≡◌, ◌+◌, List, ◌∷◌, [], length, arith, add-zero}
 use Rattle.ae_word.specs.declared.op.WordOp.{WordOp}
 use Rattle.ae_word.specs.declared.op.WordOp.TheVariants.{Add, Mul}
 use Rattle.ae_netlist.specs.declared.cell.NetId.{NetId}
-use Rattle.ae_netlist.specs.declared.netlist.NetFault.{NetFault}
 use Rattle.ae_netlist.specs.declared.cell.SizedCell.{SizedCell}
 use Rattle.ae_netlist.specs.Circuit.{Circuit, operand}
 use Rattle.ae_netlist.specs.Runs.{InEveryRun, InEveryRunFrom, word_at}
 use Rattle.ae_netlist.proofs.Carried.{carries_extends}
 use Rattle.ae_netlist.proofs.Growing.{extends_trans}
-use Rattle.ae_clocked.specs.Signals.{Adds, IsNextOf, IsResult}
-use Rattle.ae_clocked.proofs.Adding.{adds_trans}
+use Rattle.ae_gates.specs.Cells.{Adds, IsResult}
+use Rattle.ae_clocked.specs.Signals.{IsNextOf}
 use Rattle.ae_ops.specs.Words.{IsResultLater}
 
-pub adds_behind : {X : Type 0} (a b c : Circuit) (r : Result X NetFault) (muls : ℕ) → Adds a b 1 0 → OnOk r (Adds b c 8 muls) → OnOk r (Adds a c 9 muls)
-adds_behind a b c (Ok x) muls p h = rw zero-add at (adds_trans p h)
-adds_behind a b c (Err e) muls p h = tt
-
-pub refused_behind : {X : Type 0} (a b c : Circuit) (r : Result X NetFault) → Adds a b 1 0 → OnErr r (Adds b c 8 0) → OnErr r (Adds a c 9 0)
-refused_behind a b c (Ok x) p h = tt
-refused_behind a b c (Err e) p h = adds_trans p h
-
 -- the square of a register's word is that of the word before it
-pub squared : (a b c : Circuit) (r : Result NetId NetFault) (x held : NetId) (w : ℕ) → InEveryRunFrom (length a.cells) b.cells (λ run. IsNextOf run held.0 x.0)
-    → OnOk r (Adds b c 8 1)
-    → IfOk r (λ y. InEveryRunFrom (length b.cells) c.cells (λ run. IsResult run y.0 Mul w (held ∷ held ∷ held ∷ [])))
-    → IfOk r (λ y. InEveryRun c.cells (λ run. IsResultLater run y.0 1 Mul w (x ∷ x ∷ x ∷ [])))
-squared a b c (Ok y) x held w next adds result = λ all e run is t l.
+pub squared : (a b c : Circuit) (y : NetId) (x held : NetId) (w : ℕ) → InEveryRunFrom (length a.cells) b.cells (λ run. IsNextOf run held.0 x.0)
+    → Adds b c 8 1
+    → InEveryRunFrom (length b.cells) c.cells (λ run. IsResult run y.0 Mul w (held ∷ held ∷ held ∷ []))
+    → InEveryRun c.cells (λ run. IsResultLater run y.0 1 Mul w (x ∷ x ∷ x ∷ []))
+squared a b c y x held w next adds result = λ all e run is t l.
     let before : word_at run (t + 1) held.0 ≡ word_at run t x.0 = next all (carries_extends (length a.cells) (extends_trans adds.grows.extends e)) run is t l in
     rw before at (result all (carries_extends (length b.cells) e) run is (t + 1) l)
-squared a b c (Err e) x held w next adds result = result
 
 -- a result of the same clock
 pub at_once : (a c : Circuit) (y : NetId) (op : WordOp) (w : ℕ) (args : List NetId)

@@ -1,5 +1,5 @@
 -- An operator on words keeps the law of blocks.
-use Rattle.std.proofs.Common.{ℕ, zero, suc, ◌≡◌, ◌+◌, ◌-◌, ◌*◌, ◌<◌, ◌≤◌, ◌^◌, List, ◌∷◌, [], length, map, Some, slice_get, get_or, Result, Ok, Err, IfOk, OnOk, arith, refl, sym, ap, ◌∙◌, subst}
+use Rattle.std.proofs.Common.{ℕ, zero, suc, ◌≡◌, ◌+◌, ◌-◌, ◌*◌, ◌<◌, ◌≤◌, ◌^◌, List, ◌∷◌, [], length, map, Some, slice_get, get_or, arith, refl, sym, ap, ◌∙◌, subst}
 use Rattle.std.proofs.Math.Nat.{add-mul}
 use Rattle.std.proofs.lemmas.List.{length-map}
 use Rattle.std.proofs.lemmas.Option.{slice_get_within, slice_get-get_or}
@@ -10,12 +10,10 @@ use Rattle.ae_sttype.specs.declared.st_type.Slot.{Slot}
 use Rattle.ae_sttype.specs.Holds.{Holds}
 use Rattle.ae_netlist.specs.declared.cell.NetId.{NetId}
 use Rattle.ae_netlist.specs.declared.cell.SizedCell.{SizedCell}
-use Rattle.ae_netlist.specs.declared.netlist.NetFault.{NetFault}
-use Rattle.ae_netlist.specs.declared.netlist.NetFault.TheVariants.{Full}
 use Rattle.ae_netlist.specs.Circuit.{Circuit, Extends, IsNet, OperandsAre, operand}
 use Rattle.ae_netlist.specs.Runs.{Clock, InEveryResetRun, InEveryRun, word_at}
 use Rattle.ae_netlist.proofs.Growing.{extends_trans, net_later}
-use Rattle.ae_clocked.specs.Signals.{Grows, IsFullAt}
+use Rattle.ae_gates.specs.Cells.{Grows}
 use Rattle.ae_clocked.specs.Delays.{IsTap}
 use Rattle.ae_ops.specs.Waves.{AreNets, wave_of}
 use Rattle.ae_ops.specs.Blocks.{AllAreWords, AllHold, AreBundles, KeepsLaw, Stream, stream_widths}
@@ -160,23 +158,15 @@ each_one cells w y h zero width net f g =
     subst (λ (v : ℕ). IsNet cells net.0 v) e (subst (λ (x : NetId). IsNet cells x.0 w) n h)
 each_one cells w y h (suc q) width net f g = cc
 
--- with an answer that may be want of memory
-pub word_answers : (cells : List SizedCell) (rst arrival w p : ℕ) (op : WordOp) (ins : List (List NetId)) (y : NetId) (r : Result (List NetId) NetFault)
-    → IfOk r (λ out. out ≡ y ∷ []) → 1 ≤ p
+pub word_answers : (cells : List SizedCell) (rst arrival w p : ℕ) (op : WordOp) (ins : List (List NetId)) (y : NetId) (out : List NetId) → out ≡ y ∷ [] → 1 ≤ p
     → AreBundles cells (map word_stream (operand_widths op w)) ins → Computes cells rst op w (latency_of op) (operands_of op ins) y.0
-    → IfOk r (λ out. KeepsLaw cells rst arrival (word_part op w p) ins out)
-word_answers cells rst arrival w p op ins y (Ok out) is some bundles made = rw is (word_law cells rst arrival w p op ins y some bundles made)
-word_answers cells rst arrival w p op ins y (Err e) is some bundles made = is
+    → KeepsLaw cells rst arrival (word_part op w p) ins out
+word_answers cells rst arrival w p op ins y out is some bundles made = rw is (word_law cells rst arrival w p op ins y some bundles made)
 
 -- the bundle of the result
-pub word_nets : (cells : List SizedCell) (w : ℕ) (y : NetId) (r : Result (List NetId) NetFault) → IfOk r (λ out. out ≡ y ∷ []) → IsNet cells y.0 w
-    → IfOk r (λ out. AreNets cells (stream_widths (word_stream w)) out)
-word_nets cells w y (Ok out) is net = rw is (record { long = refl; each = each_one cells w y net })
-word_nets cells w y (Err e) is net = is
-
-pub not_full : {X : Type 0} (r : Result X NetFault) (nl : Circuit) → (r ≡ Err Full → ⊥) → IsFullAt r nl
-not_full (Ok x) nl h = tt
-not_full (Err e) nl h = λ is. absurd (h (ap Err is))
+pub word_nets : (cells : List SizedCell) (w : ℕ) (y : NetId) (out : List NetId) → out ≡ y ∷ [] → IsNet cells y.0 w
+    → AreNets cells (stream_widths (word_stream w)) out
+word_nets cells w y out is net = rw is (record { long = refl; each = each_one cells w y net })
 
 pub bundles_grow : (a b : List SizedCell) (streams : List Stream) (bundles : List (List NetId)) → Extends a b → AreBundles a streams bundles
     → AreBundles b streams bundles
@@ -185,7 +175,3 @@ bundles_grow a b streams bundles g h = record {
   each = λ k stream nets f u. let was = h.each k stream nets f u in
       record { long = was.long; each = λ q width net x y. net_later g (was.each q width net x y) };
 }
-
-pub on_ok : {X : Type 0} (r : Result X NetFault) (P : Type 0) → P → OnOk r P
-on_ok (Ok x) P h = h
-on_ok (Err e) P h = tt

@@ -1,9 +1,9 @@
 // The nets of a value.
 
-ghost use Rattle.std.specs.Prelude.{◌≡◌, ◌<◌, ◌∷◌, [], IfOk, Err, ◌≢◌};
+ghost use Rattle.std.specs.Prelude.{◌≡◌, ◌<◌, ◌∷◌, [], IfOk};
 
-use ae_netlist::{NetFault, NetId};
-use std::alloc::Global;
+use ae_netlist::NetId;
+use std::alloc::{AllocError, Global};
 use std::marker::Model;
 
 /// The nets of a value, by lane and then by word.
@@ -30,9 +30,8 @@ impl Bundle {
     }
 
     /// A bundle of one net.
-    pub fn one(alloc: Global, net: NetId) -> Result<Bundle, NetFault>
+    pub fn one(alloc: Global, net: NetId) -> Result<Bundle, AllocError>
         ensures ok { IfOk result (λ b. b ≡ net ∷ []) }
-        ensures fault { result ≢ Err NetFault.Full }
     {
         let mut nets = Vec::new(alloc);
         nets.push(net)?;

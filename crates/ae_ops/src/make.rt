@@ -1,18 +1,20 @@
 // The result of an operator, and how many clocks after its operands it comes.
 
-ghost use Rattle.std.specs.Prelude.{◌≤◌, if◌then◌else◌, IfOk, OnOk, OnErr};
+ghost use Rattle.std.specs.Prelude.{◌≤◌, if◌then◌else◌, IfOk, OnOk};
 ghost use Rattle.ae_word.specs.WordTable.{HasRange, latency_of, result_width_of};
 ghost use Rattle.ae_netlist.specs.Circuit.{IsNet, OperandsAre};
 ghost use Rattle.ae_netlist.specs.Counts.{is_product};
 ghost use Rattle.ae_netlist.specs.Runs.{InEveryRun};
-ghost use Rattle.ae_clocked.specs.Signals.{Adds, IsFullAt};
+ghost use Rattle.ae_netlist.specs.Room.{HasRoom};
+ghost use Rattle.ae_gates.specs.Cells.{Adds};
 ghost use Rattle.ae_ops.specs.Words.{IsResultLater};
 
 use crate::compute::compute;
 use crate::square::square;
 use crate::sums::sum_of;
-use ae_netlist::{NetFault, NetId, Netlist};
+use ae_netlist::{NetId, Netlist};
 use ae_word::{Width, WordOp};
+use std::alloc::AllocError;
 
 /// The net of a result, and how many clocks after its operands it comes.
 #[derive(Clone, Copy)]
@@ -23,12 +25,16 @@ pub struct Made {
 
 /// Adds the result of an operator on words. That of a square comes one clock after its operand, and any other in the
 /// clock of its operands.
-pub fn make(nl: &mut Netlist, op: WordOp, args: [NetId; 3], width: Width) -> Result<Made, NetFault>
+pub fn make(
+    nl: &mut Netlist,
+    op: WordOp,
+    args: [NetId; 3],
+    width: Width,
+) -> Result<Made, AllocError>
     requires range { HasRange op }
     requires operands { OperandsAre op (IsNet nl.old.cells) args width }
+    requires room { HasRoom nl.old 9 }
     ensures adds { OnOk result (Adds nl.old nl.new 9 (if is_product op then 1 else 0)) }
-    ensures err { OnErr result (Adds nl.old nl.new 9 0) }
-    ensures full { IsFullAt result nl.new }
     ensures late { IfOk result (λ made. made.late ≤ latency_of op) }
     ensures net { IfOk result (λ made. IsNet nl.new.cells made.net.0 (result_width_of op width)) }
     ensures words { IfOk result (λ made. InEveryRun nl.new.cells (λ run. IsResultLater run made.net.0 made.late op width args)) }

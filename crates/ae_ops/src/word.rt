@@ -8,9 +8,9 @@ use crate::bundle::Bundle;
 use crate::make::make;
 use crate::stage::Stage;
 use ae_clocked::{Clocks, line};
-use ae_netlist::{NetFault, NetId, Netlist};
+use ae_netlist::{NetId, Netlist};
 use ae_word::{Width, WordOp, arity, latency};
-use std::alloc::Global;
+use std::alloc::{AllocError, Global};
 use std::marker::Model;
 
 /// One operator on words: a word of each operand stands in the first clock of a period, and so does that of the result.
@@ -65,12 +65,13 @@ impl Stage for WordStage {
         clocks: &mut Clocks,
         ins: &[Bundle],
         arrival: u32,
-    ) -> Result<Bundle, NetFault> {
+    ) -> Result<Bundle, AllocError> {
         let args = operands(ins, self.op);
         let made = make(nl, self.op, args, self.width)?;
         let behind = latency(self.op) - made.late;
         let tapped = line(alloc, nl, made.net, &[behind], clocks)?;
-        Bundle::one(alloc, tapped.tap(0))
+        let out = Bundle::one(alloc, tapped.tap(0))?;
+        Ok(out)
     }
 }
 

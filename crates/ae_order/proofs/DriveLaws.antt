@@ -13,8 +13,9 @@ use Rattle.ae_order.specs.declared.sort.OrderFault.{OrderFault}
 use Rattle.ae_order.specs.declared.sort.OrderFault.TheVariants.{Loop, Memory}
 use Rattle.ae_runs.specs.Named.{IsNamed, place_of}
 use Rattle.ae_order.specs.Sound.{IsSound}
-use Rattle.ae_order.specs.Drives.{AreDriven, AreSoundValues, FeedsAt, IsFlat, IsLoopFault, IsWireOrder, noted, places_in, values_of, with_drive}
+use Rattle.ae_order.specs.Drives.{AreDriven, AreSoundValues, FeedsAt, IsFlat, IsLoopFault, IsWireOrder, names_read, noted, places_in, values_of, with_drive}
 use Rattle.ae_order.proofs.GraphWalks.{none_loops}
+use Rattle.ae_order.proofs.SymbolNames.{among_read, read_among}
 use Rattle.ae_judge.proofs.Members.{among_from, among_map, among_unmap, among_unflat, some_or_not}
 use Rattle.ae_runs.proofs.Declared.{named_net, driven_net, equation_once, equation_readable}
 use Rattle.ae_order.proofs.FlatLaws.{needs_read, read_needs, all_targets}
@@ -138,8 +139,8 @@ module _ (m : ModuleTree) (ok : IsRegular m) (shape : IsShapely m) where
         inside p None h b = absurd b
         inside p (Some e) h b =
             let d = value_equation p e h in
-            let u = among_unmap (place_of m.nets) q (names_in e) b in
-            let x = read_named d.0 d.1 u.0 (subst (λ v. Among u.0 (names_in v)) (sym d.3) u.1) in
+            let u = among_unmap (place_of m.nets) q (names_read e) b in
+            let x = read_named d.0 d.1 u.0 (subst (λ v. Among u.0 (names_in v)) (sym d.3) (read_among u.0 e u.1)) in
             let l = slice_get_within m.nets (place_of m.nets u.0) x.0 x.1 in
             let long = values_long in
             let same = u.2 in
@@ -149,8 +150,8 @@ module _ (m : ModuleTree) (ok : IsRegular m) (shape : IsShapely m) where
     feeds_of p q None h b = absurd b
     feeds_of p q (Some e) h b =
         let d = value_equation p e h in
-        let u = among_unmap (place_of m.nets) q (names_in e) b in
-        let reads = subst (λ v. Among u.0 (names_in v)) (sym d.3) u.1 in
+        let u = among_unmap (place_of m.nets) q (names_read e) b in
+        let reads = subst (λ v. Among u.0 (names_in v)) (sym d.3) (read_among u.0 e u.1) in
         let x = target_at d.0 d.1 in
         let y = read_named d.0 d.1 u.0 reads in
         record {
@@ -171,7 +172,8 @@ module _ (m : ModuleTree) (ok : IsRegular m) (shape : IsShapely m) where
         let q_is : place_of m.nets f.other.name ≡ q = place_is m ok shape q f.other f.other_at in
         read_needs m.nets (values_of m) starts targets flat p q (Some d.value)
         (subst (λ k. slice_get (values_of m) k ≡ Some (Some d.value)) p_is (value_driven d f.feeds.1))
-        (subst (λ k. Among k (places_in m.nets (Some d.value))) q_is (among_map (place_of m.nets) f.other.name (names_in d.value) f.feeds.3))
+        (subst (λ k. Among k (places_in m.nets (Some d.value))) q_is
+        (among_map (place_of m.nets) f.other.name (names_read d.value) (among_read f.other.name d.value f.feeds.3)))
 
     -- a loop of places is one of names
     same_at : (p : ℕ) (x y : NetTree) → NetAt m p x → NetAt m p y → x.name ≡ y.name

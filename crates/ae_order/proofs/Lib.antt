@@ -1,4 +1,5 @@
 pub mod Answered
+mod SymbolNames
 pub mod DriveLaws
 pub mod SoundLaws
 pub mod SoundOf

@@ -1,5 +1,4 @@
 -- The names that lists of expressions read, and lists of equations.
-use Rattle.std.proofs.lemmas.List.{map-append}
 use Rattle.std.proofs.Common.{ℕ, zero, suc, ◌≡◌, ◌+◌, ◌<◌, ◌≤◌, List, [], ◌∷◌, ◌++◌, length, map, take, set, replicate, Option, Some, None, slice_get, refl, sym, ap, ◌∙◌, arith, append_assoc, append-nil, add-one, inl, inr, IfSome, length-append}
 use Rattle.std.specs.Prelude.{flat_map, option_map}
 use Rattle.std.proofs.lemmas.Bool.{cases_lt}
@@ -111,9 +110,3 @@ module _ (ns : List NetTree) (vs : List (Option ExprTree)) where
         at = r.1;
         all = h.all ∙ ap (flat_map (places_in ns)) (take_whole vs k end ∙ sym (take_whole vs (k + 1) (omega arith)));
       }
-
--- the names of one part, and then those of what is left
-pub more_places : (f : List ℕ → ℕ) (before after all : List ℕ) (xs ys : List (List ℕ)) → after ≡ before ++ map f xs → before ++ map f (xs ++ ys) ≡ all
-    → after ++ map f ys ≡ all
-more_places f before after all xs ys pushed h =
-    ap (λ l. l ++ map f ys) pushed ∙ append_assoc before (map f xs) (map f ys) ∙ ap (λ l. before ++ l) (sym (map-append f xs ys)) ∙ h

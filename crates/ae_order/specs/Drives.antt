@@ -1,7 +1,7 @@
 -- The equations of a module's wires by the places of their names, and the graph of what they read.
-use Rattle.std.specs.Prelude.{◌≡◌, ℕ, ◌<◌, List, [], ◌∷◌, length, Option, Some, None, slice_get, slice_set, replicate, take, map, flat_map, option_map}
-use Rattle.ae_vmodule.specs.ModuleTree.{ExprTree, NetTree, DriveTree, ModuleTree}
-use Rattle.ae_judge.specs.Names.{names_in, equations}
+use Rattle.std.specs.Prelude.{◌≡◌, ℕ, ◌<◌, List, [], ◌∷◌, ◌++◌, length, Option, Some, None, slice_get, slice_set, replicate, take, map, flat_map, option_map}
+use Rattle.ae_vmodule.specs.ModuleTree.{ExprTree, name, constant, place, part, index, unary, binary, choice, concat_one, concat_more, NetTree, DriveTree, ModuleTree}
+use Rattle.ae_judge.specs.Names.{equations}
 use Rattle.ae_judge.specs.Faults.{HasLoop, NetAt, Feeds}
 use Rattle.ae_runs.specs.Named.{IsNamed, place_of}
 use Rattle.ae_order.specs.Sound.{IsSound}
@@ -27,10 +27,23 @@ noted ns vs (d ∷ ds) = noted ns (with_drive ns vs d) ds
 abbrev pub values_of : ModuleTree → List (Option ExprTree)
 values_of m = noted m.nets (replicate (length m.nets) None) (equations m)
 
+-- the names that an expression reads, in the order of its symbols: that of an index behind those of its place
+abbrev pub names_read : ExprTree → List (List ℕ)
+names_read (name n) = n ∷ []
+names_read (constant size value fits) = []
+names_read (place k) = []
+names_read (part n high low) = n ∷ []
+names_read (index n at) = names_read at ++ n ∷ []
+names_read (unary op a) = names_read a
+names_read (binary op a b) = names_read a ++ names_read b
+names_read (choice test a b) = names_read test ++ (names_read a ++ names_read b)
+names_read (concat_one a) = names_read a
+names_read (concat_more a rest) = names_read a ++ names_read rest
+
 -- the places of the names that a value reads
 abbrev pub places_in : List NetTree → Option ExprTree → List ℕ
 places_in ns None = []
-places_in ns (Some e) = map (place_of ns) (names_in e)
+places_in ns (Some e) = map (place_of ns) (names_read e)
 
 -- the places that so many values read, one after the other
 abbrev pub read_before : List NetTree → List (Option ExprTree) → ℕ → List ℕ

@@ -3,7 +3,8 @@
 ghost use Rattle.std.specs.Prelude.{ℕ, List, ◌≡◌, ◌<◌, ◌^◌, ◌++◌, ◌+◌, ◌∷◌, [], IfErr, IfOk, IfSome, OnOk, None, length, map, replicate};
 ghost use Rattle.ae_vmodule.specs.Roots.{numbered};
 ghost use Rattle.ae_vmodule.specs.View.{drive_tree, expr_tree, item_tree, module_tree, word_at};
-ghost use Rattle.ae_judge.specs.Names.{drives_of, names_in};
+ghost use Rattle.ae_judge.specs.Names.{Among, drives_of};
+ghost use Rattle.ae_judge.specs.Symbols.{words_read};
 ghost use Rattle.ae_judge.specs.Faults.{HasLoop, IsFault, IsWellFormed, Never};
 ghost use Rattle.ae_judge.specs.Shape.{IsShapely};
 ghost use Rattle.ae_judge.specs.Regular.{IsRegular};
@@ -12,10 +13,10 @@ ghost use Rattle.ae_order.specs.Sound.{IsSound};
 ghost use Rattle.ae_order.specs.Drives.{AreDriven, AreSoundValues, IsFlat, IsLoopFault, IsWireOrder, noted, places_in, value_tree, values_of};
 ghost use Rattle.ae_judge.specs.Table.{table_of};
 
-use crate::places::{place_number, place_of};
+use crate::places::place_of;
 use crate::sort::{OrderFault, order};
 use ae_judge::{ElabFault, Names, is_large};
-use ae_vmodule::{Drive, Expr, Root, VItem, VModule};
+use ae_vmodule::{Drive, Expr, Symbol, VItem, VModule};
 use std::alloc::{AllocError, Global};
 
 /// Notes the value of each equation at the place of its name.
@@ -40,42 +41,22 @@ fn add_name(names: &Names<'_>, name: u32, targets: &mut Vec<u32>) -> Result<(), 
     Ok(())
 }
 
-/// Adds the places of the names that an expression reads.
-#[cycle(reading)]
-fn add_names(names: &Names<'_>, whole: Expr<'_>, targets: &mut Vec<u32>) -> Result<(), AllocError>
+/// Adds the places of the names that symbols read.
+fn add_names(
+    names: &Names<'_>,
+    symbols: &[Symbol],
+    targets: &mut Vec<u32>,
+) -> Result<(), AllocError>
     requires few { length names.now.nets < 2 ^ 32 }
-    requires sound { IsSound names.now.nets (expr_tree names.now.words (numbered whole)) }
-    ensures { OnOk result (targets.new.items ≡ targets.old.items ++ map (place_of names.now.nets) (names_in (expr_tree names.now.words (numbered whole.entry)))) }
+    requires named { (n : List ℕ) → Among n (words_read names.now.words symbols.now) → IsNamed names.now.nets n }
+    ensures { OnOk result (targets.new.items ≡ targets.old.items ++ map (place_of names.now.nets) (words_read names.now.words symbols.now)) }
 {
-    let mut value = whole;
-    'part: loop {
-        match value.root() {
-            Root::Name(name) | Root::Part { name, .. } => return add_name(names, name, targets),
-            Root::Const { .. } | Root::Place(_) => return Ok(()),
-            Root::Index { name, at } => {
-                add_name(names, name, targets)?;
-                match place_number(at) {
-                    Some(_) => return Ok(()),
-                    None => value = at,
-                }
-            }
-            Root::Unary(_, a) => value = a,
-            Root::Binary(_, a, b) => {
-                add_names(names, a, targets)?;
-                value = b;
-            }
-            Root::Choose(test, a, b) => {
-                add_names(names, test, targets)?;
-                add_names(names, a, targets)?;
-                value = b;
-            }
-            Root::One(a) => value = a,
-            Root::More(a, rest) => {
-                add_names(names, a, targets)?;
-                value = rest;
-            }
+    'symbol: for symbol in symbols {
+        if let Some(name) = symbol.read() {
+            add_name(names, name, targets)?;
         }
     }
+    Ok(())
 }
 
 /// Adds the places that the value of an equation reads.
@@ -89,7 +70,7 @@ fn add_value(
     ensures { OnOk result (targets.new.items ≡ targets.old.items ++ places_in names.now.nets (value_tree names.now.words value.entry)) }
 {
     match value {
-        Some(e) => add_names(names, e, targets),
+        Some(e) => add_names(names, e.symbols(), targets),
         None => Ok(()),
     }
 }

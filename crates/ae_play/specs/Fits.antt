@@ -1,14 +1,15 @@
 -- Which circuits take the words of which blocks.
-use Rattle.std.specs.Prelude.{◌≡◌, ℕ, List, ◌∷◌, map, flat_map}
+use Rattle.std.specs.Prelude.{◌≡◌, ℕ, ◌*◌, List, ◌∷◌, length, map, flat_map}
 use Rattle.std.specs.List.{All}
 use Rattle.ae_word.specs.AtomTree.{WordKind, atom_kinds}
 use Rattle.ae_seqtype.specs.SeqTree.{repeated}
 use Rattle.ae_seqtype.specs.ValueTree.{FitKinds}
-use Rattle.ae_sttype.specs.StTree.{StTree, element_atom, lanes, st_atoms}
+use Rattle.ae_sttype.specs.StTree.{StTree, element_atom, lanes, st_atoms, time}
+use Rattle.ae_sttype.specs.Size.{IsInSize}
 use Rattle.ae_netlist.specs.declared.cell.SizedCell.{SizedCell}
 use Rattle.ae_netlist.specs.Counts.{cells_of, is_input}
 use Rattle.ae_netlist.specs.Rows.{AreInputs}
-use Rattle.ae_play.specs.Fed.{blocks_of, fed_rows}
+use Rattle.ae_play.specs.Fed.{blocks_of, fed_rows, size_of}
 
 -- the kinds of the words of a layout in one clock, and of a whole value of it
 abbrev pub lane_kinds : StTree → List WordKind
@@ -33,3 +34,11 @@ CanBeFed =
     (cells : List SizedCell) (slowdown fill : ℕ) (ss : List StTree) (count : ℕ) (ws : List ℕ) → HasColumns cells ss
     → FitBlocks ss count ws
     → (clocks : ℕ) → All (AreInputs cells) (fed_rows slowdown fill ss (blocks_of ss count ws) clocks)
+
+-- a circuit takes so many blocks: their layouts are in size and fill the clocks of a block, the words are whole blocks, and
+-- each row that is put on the inputs fits them
+pub record TakesBlocks (cells : List SizedCell) (slowdown fill : ℕ) (ss : List StTree) (count : ℕ) (ws : List ℕ)
+    : Type 0 where
+  pub ins : All (λ (s : StTree). IsInSize s × (time s ≡ slowdown)) ss
+  pub whole : length ws ≡ count * size_of ss
+  pub rows : (clocks : ℕ) → All (AreInputs cells) (fed_rows slowdown fill ss (blocks_of ss count ws) clocks)

@@ -1,12 +1,13 @@
 // The run of a circuit on blocks of words.
 
-ghost use Rattle.std.specs.Prelude.{◌≡◌, ◌+◌, ◌*◌, ◌∷◌, [], ℕ, List, length, map, OnOk, IfOk, All};
+ghost use Rattle.std.specs.Prelude.{◌≡◌, ◌+◌, ◌*◌, ◌∷◌, [], List, length, map, OnOk, IfOk, All};
 ghost use Rattle.ae_sttype.specs.StTree.{st_tree, time};
 ghost use Rattle.ae_sttype.specs.Size.{IsInSize};
 ghost use Rattle.ae_netlist.specs.Rows.{AreInputs, IsRunWith, filled};
 ghost use Rattle.ae_netlist.specs.Runs.{Clock};
 ghost use Rattle.ae_sim.specs.Playing.{HasPlayed};
 ghost use Rattle.ae_play.specs.Fed.{blocks_of, clock_row, fed_rows, fill_row, size_of};
+ghost use Rattle.ae_play.specs.Fits.{TakesBlocks};
 ghost use Rattle.ae_play.specs.Keeps.{Keeps};
 ghost use Rattle.ae_play.specs.Lines.{shown_words};
 
@@ -21,10 +22,15 @@ use std::alloc::{AllocError, Global};
 /// wherever no element does.
 #[derive(Clone, Copy)]
 pub struct Blocks<'a> {
+    /// The layouts of the values of a block.
     pub ins: &'a [StType],
+    /// The words of all blocks, one block behind the other.
     pub words: &'a [u64],
+    /// How many blocks there are.
     pub count: usize,
+    /// How many clocks a block is long.
     pub slowdown: Slowdown,
+    /// What stands on the inputs where no element does, cut to the width of each input.
     pub fill: u64,
 }
 
@@ -86,9 +92,7 @@ pub fn play_blocks<M: Monitor>(
     monitor: &M,
     kept: &mut M::Kept,
 ) -> Result<(), AllocError>
-    requires ins { All (λ s. IsInSize s × (time s ≡ blocks.now.slowdown)) (map st_tree blocks.now.ins.now) }
-    requires whole { length blocks.now.words.now ≡ blocks.now.count * size_of (map st_tree blocks.now.ins.now) }
-    requires rows { (n : ℕ) → All (AreInputs nl.now.cells) (fed_rows blocks.now.slowdown blocks.now.fill (map st_tree blocks.now.ins.now) (blocks_of (map st_tree blocks.now.ins.now) blocks.now.count blocks.now.words.now) n) }
+    requires takes { TakesBlocks nl.now.cells blocks.now.slowdown blocks.now.fill (map st_tree blocks.now.ins.now) blocks.now.count blocks.now.words.now }
     requires within { M.within monitor.now 0 kept.old }
     ensures { OnOk result ((run : List Clock)
         × IsRunWith nl.now.cells (fed_rows blocks.now.slowdown blocks.now.fill (map st_tree blocks.now.ins.now) (blocks_of (map st_tree blocks.now.ins.now) blocks.now.count blocks.now.words.now) clocks) (filled nl.now.cells blocks.now.fill) run

@@ -1,10 +1,10 @@
 // The lines of a run.
 
-ghost use Rattle.std.specs.Prelude.{◌≡◌, ◌+◌, ◌-◌, ◌*◌, ◌%◌, ◌<◌, ◌^◌, ◌++◌, ◌∷◌, [], ℕ, List, length, map, OnOk, All, string_bytes};
+ghost use Rattle.std.specs.Prelude.{◌≡◌, ◌+◌, ◌-◌, ◌*◌, ◌%◌, ◌<◌, ◌^◌, ◌++◌, ◌∷◌, [], ℕ, List, map, OnOk, All, string_bytes};
 ghost use Rattle.ae_sttype.specs.StTree.{st_tree, time};
 ghost use Rattle.ae_sttype.specs.Size.{IsInSize};
-ghost use Rattle.ae_netlist.specs.Rows.{AreInputs};
-ghost use Rattle.ae_play.specs.Fed.{blocks_of, fed_rows, size_of};
+ghost use Rattle.ae_play.specs.Fed.{blocks_of};
+ghost use Rattle.ae_play.specs.Fits.{TakesBlocks};
 ghost use Rattle.ae_play.specs.Lines.{IsPlayedText, clock_count, clock_line, mark, spaced, stands};
 
 use crate::blocks::{Blocks, play_blocks};
@@ -113,33 +113,20 @@ pub fn write_clocks(
     alloc: Global,
     out: &mut String,
     nl: &Netlist,
-    ins: &[StType],
+    fed: &Blocks<'_>,
     outs: &[StType],
-    slowdown: Slowdown,
     latency: u32,
-    words: &[u64],
-    blocks: usize,
-    fill: u64,
 ) -> Result<(), AllocError>
-    requires ins { All (λ s. IsInSize s × (time s ≡ slowdown)) (map st_tree ins.now) }
-    requires outs { All (λ s. IsInSize s × (time s ≡ slowdown)) (map st_tree outs.now) }
-    requires few { clock_count slowdown latency blocks < 2 ^ 32 }
-    requires whole { length words.now ≡ blocks * size_of (map st_tree ins.now) }
-    requires rows { (n : ℕ) → All (AreInputs nl.now.cells) (fed_rows slowdown fill (map st_tree ins.now) (blocks_of (map st_tree ins.now) blocks words.now) n) }
-    ensures { OnOk result ((text : List ℕ) × (string_bytes out.new ≡ string_bytes out.old ++ text) × IsPlayedText nl.now slowdown latency fill (map st_tree ins.now) (map st_tree outs.now) (blocks_of (map st_tree ins.now) blocks words.now) text) }
+    requires takes { TakesBlocks nl.now.cells fed.now.slowdown fed.now.fill (map st_tree fed.now.ins.now) fed.now.count fed.now.words.now }
+    requires outs { All (λ s. IsInSize s × (time s ≡ fed.now.slowdown)) (map st_tree outs.now) }
+    requires few { clock_count fed.now.slowdown latency fed.now.count < 2 ^ 32 }
+    ensures { OnOk result ((text : List ℕ) × (string_bytes out.new ≡ string_bytes out.old ++ text) × IsPlayedText nl.now fed.now.slowdown latency fed.now.fill (map st_tree fed.now.ins.now) (map st_tree outs.now) (blocks_of (map st_tree fed.now.ins.now) fed.now.count fed.now.words.now) text) }
 {
-    let clocks = clock_count(slowdown, latency, blocks);
-    let fed = Blocks {
-        ins,
-        words,
-        count: blocks,
-        slowdown,
-        fill,
-    };
+    let clocks = clock_count(fed.slowdown, latency, fed.count);
     let writer = LineWriter {
         outs,
-        slowdown,
+        slowdown: fed.slowdown,
         latency,
     };
-    play_blocks(alloc, nl, &fed, clocks, &writer, out)
+    play_blocks(alloc, nl, fed, clocks, &writer, out)
 }

@@ -9,6 +9,7 @@ mod stepping;
 mod sums;
 mod words;
 
+pub use blocks::Blocks;
 pub use clocks::{write_clocks, write_words};
 pub use fits::can_be_fed;
 pub use stepping::{Monitor, Stimulus, play};

@@ -1,11 +1,11 @@
 // The sums of the words of a run.
 
-ghost use Rattle.std.specs.Prelude.{◌≡◌, ◌+◌, ◌-◌, ◌*◌, ◌<◌, ◌≤◌, ◌^◌, ℕ, length, map, All, IfOk, if◌then◌else◌};
+ghost use Rattle.std.specs.Prelude.{◌≡◌, ◌+◌, ◌-◌, ◌*◌, ◌<◌, ◌≤◌, ◌^◌, length, map, All, IfOk, if◌then◌else◌};
 ghost use Rattle.std.specs.List.{sum};
 ghost use Rattle.ae_sttype.specs.StTree.{st_tree, time};
 ghost use Rattle.ae_sttype.specs.Size.{IsInSize};
-ghost use Rattle.ae_netlist.specs.Rows.{AreInputs};
-ghost use Rattle.ae_play.specs.Fed.{blocks_of, fed_rows, size_of};
+ghost use Rattle.ae_play.specs.Fed.{blocks_of};
+ghost use Rattle.ae_play.specs.Fits.{TakesBlocks};
 ghost use Rattle.ae_play.specs.Lines.{clock_count};
 ghost use Rattle.ae_play.specs.Sums.{ArePlayedSums, all_stand};
 ghost use Rattle.ae_play.specs.WordSums.{AreWithClock, HaveRoom};
@@ -109,32 +109,19 @@ impl Monitor for WordSummer<'_> {
 pub fn sum_clocks(
     alloc: Global,
     nl: &Netlist,
-    ins: &[StType],
+    fed: &Blocks<'_>,
     outs: &[StType],
-    slowdown: Slowdown,
     latency: u32,
-    words: &[u64],
-    blocks: usize,
-    fill: u64,
 ) -> Result<Sums, AllocError>
-    requires ins { All (λ s. IsInSize s × (time s ≡ slowdown)) (map st_tree ins.now) }
-    requires outs { All (λ s. IsInSize s × (time s ≡ slowdown)) (map st_tree outs.now) }
-    requires few { clock_count slowdown latency blocks < 2 ^ 32 }
-    requires whole { length words.now ≡ blocks * size_of (map st_tree ins.now) }
-    requires rows { (n : ℕ) → All (AreInputs nl.now.cells) (fed_rows slowdown fill (map st_tree ins.now) (blocks_of (map st_tree ins.now) blocks words.now) n) }
-    ensures { IfOk result (λ sums. ArePlayedSums nl.now slowdown latency fill (map st_tree ins.now) (map st_tree outs.now) (blocks_of (map st_tree ins.now) blocks words.now) sums) }
+    requires takes { TakesBlocks nl.now.cells fed.now.slowdown fed.now.fill (map st_tree fed.now.ins.now) fed.now.count fed.now.words.now }
+    requires outs { All (λ s. IsInSize s × (time s ≡ fed.now.slowdown)) (map st_tree outs.now) }
+    requires few { clock_count fed.now.slowdown latency fed.now.count < 2 ^ 32 }
+    ensures { IfOk result (λ sums. ArePlayedSums nl.now fed.now.slowdown latency fed.now.fill (map st_tree fed.now.ins.now) (map st_tree outs.now) (blocks_of (map st_tree fed.now.ins.now) fed.now.count fed.now.words.now) sums) }
 {
-    let clocks = clock_count(slowdown, latency, blocks);
-    let fed = Blocks {
-        ins,
-        words,
-        count: blocks,
-        slowdown,
-        fill,
-    };
+    let clocks = clock_count(fed.slowdown, latency, fed.count);
     let summer = WordSummer {
         outs,
-        slowdown,
+        slowdown: fed.slowdown,
         latency,
     };
     let mut sums = Sums {
@@ -142,6 +129,6 @@ pub fn sum_clocks(
         valid_sum: 0,
         whole_sum: 0,
     };
-    play_blocks(alloc, nl, &fed, clocks, &summer, &mut sums)?;
+    play_blocks(alloc, nl, fed, clocks, &summer, &mut sums)?;
     Ok(sums)
 }

@@ -1,10 +1,9 @@
 // The words of all ports in a run.
 
-ghost use Rattle.std.specs.Prelude.{◌≡◌, ◌-◌, ◌*◌, ◌<◌, ◌^◌, ◌++◌, ℕ, length, map, IfOk, All};
-ghost use Rattle.ae_sttype.specs.StTree.{st_tree, time};
-ghost use Rattle.ae_sttype.specs.Size.{IsInSize};
-ghost use Rattle.ae_netlist.specs.Rows.{AreInputs};
-ghost use Rattle.ae_play.specs.Fed.{blocks_of, fed_rows, size_of};
+ghost use Rattle.std.specs.Prelude.{◌≡◌, ◌-◌, ◌<◌, ◌^◌, ◌++◌, map, IfOk};
+ghost use Rattle.ae_sttype.specs.StTree.{st_tree};
+ghost use Rattle.ae_play.specs.Fed.{blocks_of};
+ghost use Rattle.ae_play.specs.Fits.{TakesBlocks};
 ghost use Rattle.ae_play.specs.Lines.{clock_count};
 ghost use Rattle.ae_play.specs.Words.{ArePlayedWords};
 
@@ -12,7 +11,6 @@ use crate::blocks::{Blocks, play_blocks};
 use crate::clocks::clock_count;
 use crate::stepping::Monitor;
 use ae_netlist::Netlist;
-use ae_sttype::{Slowdown, StType};
 use std::alloc::{AllocError, Global};
 
 // Keeps the words of all ports of each clock.
@@ -43,28 +41,15 @@ impl Monitor for WordKeeper {
 pub fn clock_words(
     alloc: Global,
     nl: &Netlist,
-    ins: &[StType],
-    slowdown: Slowdown,
+    fed: &Blocks<'_>,
     latency: u32,
-    words: &[u64],
-    blocks: usize,
-    fill: u64,
 ) -> Result<Vec<u64>, AllocError>
-    requires ins { All (λ s. IsInSize s × (time s ≡ slowdown)) (map st_tree ins.now) }
-    requires few { clock_count slowdown latency blocks < 2 ^ 32 }
-    requires whole { length words.now ≡ blocks * size_of (map st_tree ins.now) }
-    requires rows { (n : ℕ) → All (AreInputs nl.now.cells) (fed_rows slowdown fill (map st_tree ins.now) (blocks_of (map st_tree ins.now) blocks words.now) n) }
-    ensures { IfOk result (λ all. ArePlayedWords nl.now slowdown latency fill (map st_tree ins.now) (blocks_of (map st_tree ins.now) blocks words.now) all.items) }
+    requires takes { TakesBlocks nl.now.cells fed.now.slowdown fed.now.fill (map st_tree fed.now.ins.now) fed.now.count fed.now.words.now }
+    requires few { clock_count fed.now.slowdown latency fed.now.count < 2 ^ 32 }
+    ensures { IfOk result (λ all. ArePlayedWords nl.now fed.now.slowdown latency fed.now.fill (map st_tree fed.now.ins.now) (blocks_of (map st_tree fed.now.ins.now) fed.now.count fed.now.words.now) all.items) }
 {
-    let clocks = clock_count(slowdown, latency, blocks);
-    let fed = Blocks {
-        ins,
-        words,
-        count: blocks,
-        slowdown,
-        fill,
-    };
+    let clocks = clock_count(fed.slowdown, latency, fed.count);
     let mut all = Vec::new(alloc);
-    play_blocks(alloc, nl, &fed, clocks, &WordKeeper, &mut all)?;
+    play_blocks(alloc, nl, fed, clocks, &WordKeeper, &mut all)?;
     Ok(all)
 }

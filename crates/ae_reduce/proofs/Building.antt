@@ -1,15 +1,14 @@
 -- What the stage's circuit owes to the part.
-use Rattle.std.proofs.Common.{ℕ, ◌≡◌, ◌+◌, ◌-◌, ◌*◌, ◌≤◌, List, length, arith, refl}
+use Rattle.std.proofs.Common.{ℕ, ◌≡◌, ◌+◌, ◌-◌, ◌*◌, ◌≤◌, List, length, refl}
 use Rattle.ae_netlist.specs.declared.cell.NetId.{NetId}
 use Rattle.ae_netlist.specs.declared.cell.SizedCell.{SizedCell}
-use Rattle.ae_netlist.specs.Circuit.{Circuit}
 use Rattle.ae_sttype.specs.StTree.{st_tree}
 use Rattle.ae_ops.specs.Folds.{log_up}
 use Rattle.ae_ops.specs.Waves.{AreNets}
 use Rattle.ae_ops.specs.Blocks.{KeepsLaw, stream_of, stream_widths}
 use Rattle.ae_fold.specs.declared.words.WordFold.{WordFold}
 use Rattle.ae_fold.specs.declared.plan.Plan.{Plan}
-use Rattle.ae_fold.specs.Folding.{AddsUpTo, products_in}
+use Rattle.ae_fold.specs.Folding.{products_in}
 use Rattle.ae_fold.specs.Rows.{AreFoldNets, AreScans, wait_of}
 use Rattle.ae_fold.specs.Shapes.{FoldShape, element_columns}
 use Rattle.ae_fold.proofs.Planning.{levels_below}
@@ -22,16 +21,14 @@ use Rattle.ae_reduce.proofs.Counting.{cells_bound, products_are}
 use Rattle.ae_reduce.proofs.ReduceLaw.{reduce_law}
 
 pub build_cells : (cells : List SizedCell) (f : FoldShape) (folds : List WordFold) (plan : Plan) (ins : List (List NetId)) (nets : List NetId)
-    (old new : Circuit) → IsBuild cells f folds plan ins nets → AddsUpTo old new (reduce_cells plan)
-    → length new.cells ≤ length old.cells + (reduce_part f).most_cells
-build_cells cells f folds plan ins nets old new h up =
+    → IsBuild cells f folds plan ins nets → reduce_cells plan ≤ (reduce_part f).most_cells
+build_cells cells f folds plan ins nets h =
     let low : plan.levels ≤ plan.lanes = levels_below plan.lanes plan.levels h.is_plan.wide h.is_plan.least in
-    let made : AddsUpTo old new (reduce_cells (plan_for f)) = rw h.plan_are at up in
     let below : log_up f.lanes ≤ f.lanes = rw h.plan_are at low in
     let placed : 1 ≤ element_columns (st_tree f.element) = rw h.plan_are at h.is_plan.placed in
     let bound = cells_bound f.slots f.lanes (log_up f.lanes) (element_columns (st_tree f.element)) (plan_for f).inner
     (reduce_part f).latency h.shape.lanes_some placed below in
-    omega (arith, made.cells, bound)
+    rw h.plan_are bound
 
 pub build_products : (cells : List SizedCell) (f : FoldShape) (folds : List WordFold) (plan : Plan) (ins : List (List NetId)) (nets : List NetId)
     → IsBuild cells f folds plan ins nets → reduce_products plan (products_in folds) ≡ (reduce_part f).products

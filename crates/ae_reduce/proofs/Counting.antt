@@ -4,9 +4,9 @@ use Rattle.std.proofs.Math.Nat.{mul-add, mul_assoc, mul_comm, mul-le-mul_right, 
 use Rattle.ae_word.specs.declared.op.WordOp.{WordOp}
 use Rattle.ae_netlist.specs.Circuit.{Circuit}
 use Rattle.ae_netlist.specs.Counts.{is_product}
-use Rattle.ae_clocked.specs.Signals.{Adds}
+use Rattle.ae_gates.specs.Cells.{Adds}
 use Rattle.ae_clocked.specs.Rings.{rings}
-use Rattle.ae_clocked.proofs.Adding.{adds_trans}
+use Rattle.ae_gates.proofs.Adding.{adds_trans}
 use Rattle.ae_fold.specs.declared.plan.Plan.{Plan}
 use Rattle.ae_fold.specs.declared.marks.SlotMark.{SlotMark}
 use Rattle.ae_fold.specs.Feedback.{AddsStores}

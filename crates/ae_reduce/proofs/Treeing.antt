@@ -12,17 +12,18 @@ use Rattle.ae_netlist.specs.Runs.{Clock, IsRun, InEveryRun, InEveryRunFrom}
 use Rattle.ae_netlist.proofs.Gets.{get_push_cases}
 use Rattle.ae_netlist.proofs.Growing.{extends_trans, net_later}
 use Rattle.ae_netlist.proofs.Carried.{carries_extends}
-use Rattle.ae_clocked.specs.Signals.{Adds, IsNextOf}
-use Rattle.ae_clocked.proofs.Adding.{adds_trans}
+use Rattle.ae_gates.specs.Cells.{Adds}
+use Rattle.ae_clocked.specs.Signals.{IsNextOf}
+use Rattle.ae_gates.proofs.Adding.{adds_trans}
 use Rattle.ae_ops.specs.Folds.{combine, fold_to}
-use Rattle.ae_ops.proofs.Computing.{held_fits}
+use Rattle.ae_gates.proofs.Fits.{held_fits}
 use Rattle.ae_fold.specs.declared.words.WordFold.{WordFold}
 use Rattle.ae_fold.specs.Feedback.{IsJoined}
-use Rattle.ae_fold.specs.Folding.{AddsUpTo, AreFolds, Fit, fold_at}
+use Rattle.ae_fold.specs.Folding.{AreFolds, Fit, fold_at}
 use Rattle.ae_fold.specs.Rows.{AreFoldNets, AreOverLanes, net_at, row_word}
 use Rattle.ae_fold.proofs.Associative.{fold_zero, pairs_fold}
 use Rattle.ae_fold.proofs.Blocks.{fold_at_add, same_place}
-use Rattle.ae_fold.proofs.Feeding.{adds_is, up_trans}
+use Rattle.ae_fold.proofs.Feeding.{adds_is}
 use Rattle.ae_fold.proofs.Looping.{fold_op}
 use Rattle.ae_reduce.specs.Trees.{IsPair, ArePairs, FoldAlike}
 
@@ -262,10 +263,10 @@ uneven lanes stride =
     let m : suc (lanes / 2) * stride ≡ lanes / 2 * stride + stride = suc-mul (lanes / 2) stride in
     omega arith
 
--- a pair that was not added
-pub up_pair : {a b c : Circuit} (lanes stride q muls : ℕ) → 1 ≤ stride → q < (lanes + 1) / 2 * stride → Adds a b (q + 8 * min q (lanes / 2 * stride)) muls
-    → AddsUpTo b c 9 → AddsUpTo a c (9 * (lanes * stride))
-up_pair lanes stride q muls pos l p r = let h = halves lanes stride in up_trans (9 * (lanes * stride)) (omega arith) p r
+-- one pair more has room
+pub pair_room : (lanes stride q total : ℕ) → 1 ≤ stride → total ≡ lanes * stride → q < (lanes + 1) / 2 * stride
+    → q + 8 * min q (lanes / 2 * stride) + (1 + 8 * bit (nat_lt (q + q / stride * stride + stride) total)) ≤ (lanes + 1) / 2 * stride + 8 * (lanes / 2 * stride)
+pair_room lanes stride q total pos long l = let more = paired_more lanes stride q total pos long in omega arith
 
 pub adds_level : {a b c : Circuit} (lanes count stride i muls : ℕ) → count * stride ≤ lanes * stride
     → Adds a b (9 * (lanes * stride - count * stride) + i * stride) ((lanes * stride - count * stride) * muls)
@@ -281,12 +282,13 @@ adds_level lanes count stride i muls less p r =
     let one : (i + 1) * stride ≡ i * stride + 1 * stride = add-mul i 1 stride in
     rw e (adds_is (omega arith) (omega arith) (adds_trans p r))
 
-pub up_level : {a b c : Circuit} (lanes count stride i levels muls : ℕ) → count * stride ≤ lanes * stride → i < levels
-    → Adds a b (9 * (lanes * stride - count * stride) + i * stride) muls → AddsUpTo b c (9 * (count * stride))
-    → AddsUpTo a c (9 * (lanes * stride) + levels * stride)
-up_level lanes count stride i levels muls less l p r =
+-- one level more has room
+pub level_room : (lanes count stride i levels : ℕ) → count * stride ≤ lanes * stride → i < levels
+    → 9 * (lanes * stride - count * stride) + i * stride + ((count + 1) / 2 * stride + 8 * (count / 2 * stride)) ≤ 9 * (lanes * stride) + levels * stride
+level_room lanes count stride i levels less l =
+    let h = halves count stride in
     let up : i * stride ≤ levels * stride = mul-le-mul_right stride (let n : i ≤ levels = omega arith in n) in
-    up_trans (9 * (lanes * stride) + levels * stride) (omega arith) p r
+    omega arith
 
 -- the nets of a pair
 pub left_net : (cells : List SizedCell) (folds : List WordFold) (nets : List NetId) (lanes stride q : ℕ) → AreFolds folds → AreFoldNets cells folds nets

@@ -3,17 +3,18 @@
 ghost use Rattle.std.specs.Prelude.{◌≡◌, ◌+◌, ◌-◌, ◌*◌, ◌/◌, ◌%◌, ◌^◌, ◌<◌, ◌≤◌, nat_lt, length, IfOk, OnOk};
 ghost use Rattle.ae_word.specs.WordTable.{bit};
 ghost use Rattle.ae_netlist.specs.Circuit.{IsNet};
-ghost use Rattle.ae_clocked.specs.Signals.{Adds, IsFullAt};
+ghost use Rattle.ae_netlist.specs.Room.{HasRoom};
+ghost use Rattle.ae_gates.specs.Cells.{Adds};
 ghost use Rattle.ae_ops.specs.Folds.{IsFold};
-ghost use Rattle.ae_fold.specs.Folding.{AddsUpTo, AreFolds, product_of, products_in};
+ghost use Rattle.ae_fold.specs.Folding.{AreFolds, product_of, products_in};
 ghost use Rattle.ae_fold.specs.Rows.{AreFoldNets, AreOverLanes, net_at};
 ghost use Rattle.ae_reduce.specs.Trees.{ArePairs, IsPair};
 
 use ae_clocked::delayed;
 use ae_fold::{WordFold, joined};
-use ae_netlist::{NetFault, NetId, Netlist};
+use ae_netlist::{NetId, Netlist};
 use ae_word::Width;
-use std::alloc::Global;
+use std::alloc::{AllocError, Global};
 
 /// The pair of two places, one clock later, or the left one alone where the right one is past the last.
 fn pair(
@@ -22,16 +23,15 @@ fn pair(
     nets: &[NetId],
     left: usize,
     right: usize,
-) -> Result<NetId, NetFault>
+) -> Result<NetId, AllocError>
     requires low { 1 ≤ fold.width }
     requires high { fold.width ≤ 64 }
     requires folds { IsFold fold.op }
     requires there { left < length nets.now }
     requires first { IsNet nl.old.cells (net_at nets.now left) fold.width }
     requires second { right < length nets.now → IsNet nl.old.cells (net_at nets.now right) fold.width }
+    requires room { HasRoom nl.old (1 + 8 * bit (nat_lt right (length nets.now))) }
     ensures adds { OnOk result (Adds nl.old nl.new (1 + 8 * bit (nat_lt right (length nets.now))) (bit (nat_lt right (length nets.now)) * product_of fold.op)) }
-    ensures up { AddsUpTo nl.old nl.new 9 }
-    ensures full { IsFullAt result nl.new }
     ensures pair { IfOk result (λ y. IsPair nl.new.cells fold nets.now left right y.0) }
 {
     if right < nets.len() {
@@ -51,7 +51,7 @@ fn level(
     nets: &[NetId],
     lanes: usize,
     stride: usize,
-) -> Result<Vec<NetId>, NetFault>
+) -> Result<Vec<NetId>, AllocError>
     requires folds { AreFolds folds.now }
     requires nets { AreFoldNets nl.old.cells folds.now nets.now }
     requires long { length nets.now ≡ lanes * stride }
@@ -59,9 +59,8 @@ fn level(
     requires placed { 1 ≤ stride }
     requires small { stride ≤ 16384 }
     requires whole { stride % length folds.now ≡ 0 }
+    requires room { HasRoom nl.old ((lanes + 1) / 2 * stride + 8 * (lanes / 2 * stride)) }
     ensures adds { OnOk result (Adds nl.old nl.new ((lanes + 1) / 2 * stride + 8 * (lanes / 2 * stride)) (lanes / 2 * stride * products_in folds.now)) }
-    ensures up { AddsUpTo nl.old nl.new (9 * (lanes * stride)) }
-    ensures full { IsFullAt result nl.new }
     ensures long { IfOk result (λ outs. length outs.items ≡ (lanes + 1) / 2 * stride) }
     ensures pairs { IfOk result (λ outs. ArePairs nl.new.cells folds.now nets.now stride outs.items) }
 {
@@ -84,7 +83,7 @@ pub fn tree(
     lanes: usize,
     stride: usize,
     levels: u32,
-) -> Result<Vec<NetId>, NetFault>
+) -> Result<Vec<NetId>, AllocError>
     requires folds { AreFolds folds.now }
     requires nets { AreFoldNets nl.old.cells folds.now nets.items }
     requires long { length nets.items ≡ lanes * stride }
@@ -94,9 +93,8 @@ pub fn tree(
     requires placed { 1 ≤ stride }
     requires small { stride ≤ 16384 }
     requires whole { stride % length folds.now ≡ 0 }
+    requires room { HasRoom nl.old (9 * (lanes * stride) + levels * stride) }
     ensures adds { OnOk result (Adds nl.old nl.new (9 * (lanes * stride) + levels * stride) ((lanes * stride - stride) * products_in folds.now)) }
-    ensures up { AddsUpTo nl.old nl.new (9 * (lanes * stride) + levels * stride) }
-    ensures full { IsFullAt result nl.new }
     ensures long { IfOk result (λ outs. length outs.items ≡ stride) }
     ensures nets { IfOk result (λ outs. AreFoldNets nl.new.cells folds.now outs.items) }
     ensures words { IfOk result (λ outs. AreOverLanes nl.new.cells folds.now nets.items stride levels ((lanes - 1) * stride) outs.items) }

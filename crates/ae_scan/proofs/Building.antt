@@ -2,14 +2,13 @@
 use Rattle.std.proofs.Common.{ℕ, ◌≡◌, ◌+◌, ◌*◌, ◌≤◌, List, length, arith}
 use Rattle.ae_netlist.specs.declared.cell.NetId.{NetId}
 use Rattle.ae_netlist.specs.declared.cell.SizedCell.{SizedCell}
-use Rattle.ae_netlist.specs.Circuit.{Circuit}
 use Rattle.ae_sttype.specs.StTree.{st_tree}
 use Rattle.ae_ops.specs.Folds.{log_up}
 use Rattle.ae_ops.specs.Waves.{AreNets}
 use Rattle.ae_ops.specs.Blocks.{KeepsLaw, stream_of, stream_widths}
 use Rattle.ae_fold.specs.declared.words.WordFold.{WordFold}
 use Rattle.ae_fold.specs.declared.plan.Plan.{Plan}
-use Rattle.ae_fold.specs.Folding.{AddsUpTo, products_in}
+use Rattle.ae_fold.specs.Folding.{products_in}
 use Rattle.ae_fold.specs.Rows.{AreFoldNets, AreScans, wait_of}
 use Rattle.ae_fold.specs.Shapes.{FoldShape, element_columns, elements_layout}
 use Rattle.ae_fold.proofs.Kinding.{all_products}
@@ -21,14 +20,12 @@ use Rattle.ae_scan.proofs.Counting.{cells_bound, products_are}
 use Rattle.ae_scan.proofs.ScanLaw.{scan_law}
 
 pub build_cells : (cells : List SizedCell) (f : FoldShape) (folds : List WordFold) (plan : Plan) (ins : List (List NetId)) (nets : List NetId)
-    (old new : Circuit) → IsBuild cells f folds plan ins nets → AddsUpTo old new (scan_cells plan)
-    → length new.cells ≤ length old.cells + (scan_part f).most_cells
-build_cells cells f folds plan ins nets old new h up =
-    let made : AddsUpTo old new (scan_cells (plan_for f)) = rw h.plan_are at up in
+    → IsBuild cells f folds plan ins nets → scan_cells plan ≤ (scan_part f).most_cells
+build_cells cells f folds plan ins nets h =
     let placed : 1 ≤ element_columns (st_tree f.element) = rw h.plan_are at h.is_plan.placed in
     let bound = cells_bound f.slots f.lanes (log_up f.lanes) (element_columns (st_tree f.element)) (plan_for f).inner
     (scan_part f).latency h.shape.lanes_some placed in
-    omega (arith, made.cells, bound)
+    rw h.plan_are bound
 
 pub build_products : (cells : List SizedCell) (f : FoldShape) (folds : List WordFold) (plan : Plan) (ins : List (List NetId)) (nets : List NetId)
     → IsBuild cells f folds plan ins nets → scan_products plan (products_in folds) ≡ (scan_part f).products

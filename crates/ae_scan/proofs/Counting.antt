@@ -5,15 +5,14 @@ use Rattle.std.proofs.lemmas.Nat.{mod-mul-add}
 use Rattle.ae_word.specs.declared.op.WordOp.{WordOp}
 use Rattle.ae_netlist.specs.Circuit.{Circuit}
 use Rattle.ae_netlist.specs.Counts.{is_product}
-use Rattle.ae_clocked.specs.Signals.{Adds}
+use Rattle.ae_gates.specs.Cells.{Adds}
 use Rattle.ae_clocked.specs.Rings.{rings}
-use Rattle.ae_clocked.proofs.Adding.{adds_trans}
+use Rattle.ae_gates.proofs.Adding.{adds_trans}
 use Rattle.ae_fold.specs.declared.plan.Plan.{Plan}
 use Rattle.ae_fold.specs.declared.marks.SlotMark.{SlotMark}
 use Rattle.ae_fold.specs.Feedback.{AddsStores}
-use Rattle.ae_fold.specs.Folding.{AddsUpTo, product_of}
+use Rattle.ae_fold.specs.Folding.{product_of}
 use Rattle.ae_fold.specs.Rows.{loop_memories, marks_in, wait_of}
-use Rattle.ae_fold.proofs.Feeding.{up_trans}
 use Rattle.ae_fold.proofs.Storing.{stores_is, stores_of, stores_trans}
 use Rattle.ae_scan.specs.Scans.{scan_cells, scan_products, sweep_joins}
 
@@ -125,18 +124,12 @@ last_lane lanes stride n some e = e ∙ sym (last_lane_is lanes stride some)
 pub whole_lanes : (n stride : ℕ) → 1 ≤ stride → n * stride % stride ≡ 0
 whole_lanes n stride pos = let z : n * stride ≡ n * stride + 0 = omega arith in ap (λ k. k % stride) z ∙ mod-mul-add n stride 0 pos
 
--- ---- where it stopped
-
-pub up_sweep : (a b c : Circuit) (plan : Plan) → Adds a b (wait_of plan.slots * 33) 0 → AddsUpTo b c (plan.levels * (plan.lanes * plan.stride * 9))
-    → AddsUpTo a c (scan_cells plan)
-up_sweep a b c plan x y = up_trans (scan_cells plan) (omega arith) x y
-
-pub up_loops : (a b c d : Circuit) (plan : Plan) (mark : Option SlotMark) (p from : ℕ) → marks_in mark ≡ wait_of plan.slots
-    → from ≡ (plan.lanes - 1) * plan.stride → Adds a b (wait_of plan.slots * 33) 0 → Adds b c (plan.levels * (plan.lanes * plan.stride * 9)) p
-    → AddsUpTo c d (marks_in mark * (plan.stride * (plan.inner + 9) + from * 10)) → AddsUpTo a d (scan_cells plan)
-up_loops a b c d plan mark p from w begin x y z =
+-- the loops have room behind the mark and the sweep
+pub loops_room : (plan : Plan) (mark : Option SlotMark) (from : ℕ) → marks_in mark ≡ wait_of plan.slots → from ≡ (plan.lanes - 1) * plan.stride
+    → wait_of plan.slots * 33 + plan.levels * (plan.lanes * plan.stride * 9) + marks_in mark * (plan.stride * (plan.inner + 9) + from * 10) ≤ scan_cells plan
+loops_room plan mark from w begin =
     let cells : marks_in mark * (plan.stride * (plan.inner + 9) + from * 10) ≡ wait_of
     plan.slots * (plan.stride * (plan.inner + 9) + (plan.lanes - 1) * plan.stride * 10) =
     ap (λ k. marks_in mark * (plan.stride * (plan.inner + 9) + k * 10)) begin ∙
     ap (λ k. k * (plan.stride * (plan.inner + 9) + (plan.lanes - 1) * plan.stride * 10)) w in
-    up_trans (scan_cells plan) (omega arith) (adds_trans x y) z
+    omega arith

@@ -13,17 +13,18 @@ use Rattle.ae_netlist.specs.Runs.{Clock, IsRun, InEveryRun, InEveryRunFrom}
 use Rattle.ae_netlist.proofs.Gets.{get_push_cases}
 use Rattle.ae_netlist.proofs.Growing.{extends_trans, net_later}
 use Rattle.ae_netlist.proofs.Carried.{carries_extends}
-use Rattle.ae_clocked.specs.Signals.{Adds, IsNextOf}
-use Rattle.ae_clocked.proofs.Adding.{adds_same, adds_trans}
+use Rattle.ae_gates.specs.Cells.{Adds}
+use Rattle.ae_clocked.specs.Signals.{IsNextOf}
+use Rattle.ae_gates.proofs.Adding.{adds_same, adds_trans}
 use Rattle.ae_ops.specs.Folds.{IsFold, fold_to}
-use Rattle.ae_ops.proofs.Computing.{held_fits}
+use Rattle.ae_gates.proofs.Fits.{held_fits}
 use Rattle.ae_fold.specs.declared.words.WordFold.{WordFold}
 use Rattle.ae_fold.specs.Feedback.{IsJoined}
-use Rattle.ae_fold.specs.Folding.{AddsUpTo, AreFolds, Fit, fold_at}
+use Rattle.ae_fold.specs.Folding.{AreFolds, Fit, fold_at}
 use Rattle.ae_fold.specs.Rows.{AreFoldNets, AreOverLanes, net_at, row_word}
 use Rattle.ae_fold.proofs.Associative.{fold_cut, fold_same, fold_zero}
 use Rattle.ae_fold.proofs.Blocks.{same_place, turns_of}
-use Rattle.ae_fold.proofs.Feeding.{adds_is, up_trans}
+use Rattle.ae_fold.proofs.Feeding.{adds_is}
 use Rattle.ae_fold.proofs.Looping.{fold_op}
 use Rattle.ae_scan.specs.Sweeps.{AreJoins, AreWindows, IsJoin, IsSweep, Windowed}
 use Rattle.ae_scan.specs.Scans.{sweep_joins}
@@ -267,14 +268,15 @@ reach_small lanes stride i reach e low few small = rw e (product_within (2 ^ i) 
     product_within : (a b : ℕ) → a ≤ 4096 → b ≤ 16384 → a * b ≤ 67108864
     product_within a b p q = grind arith
 
-pub up_level : {a b c : Circuit} (lanes stride i levels total muls : ℕ) → total ≡ lanes * stride → i < levels → Adds a b (i * (lanes * stride * 9)) muls
-    → AddsUpTo b c (total * 9) → AddsUpTo a c (levels * (lanes * stride * 9))
-up_level lanes stride i levels total muls et l p r =
+-- one level more has room
+pub level_room : (lanes stride i levels total : ℕ) → total ≡ lanes * stride → i < levels
+    → i * (lanes * stride * 9) + total * 9 ≤ levels * (lanes * stride * 9)
+level_room lanes stride i levels total et l =
     let one : (i + 1) * (lanes * stride * 9) ≡ i * (lanes * stride * 9) + 1 * (lanes * stride * 9) = add-mul i 1 (lanes * stride * 9) in
     let up : (i + 1) * (lanes * stride * 9) ≤ levels * (lanes * stride * 9) = mul-le-mul_right (lanes * stride * 9)
     (let n : i + 1 ≤ levels = omega arith in n) in
     let nine : total * 9 ≡ lanes * stride * 9 = ap (λ k. k * 9) et in
-    up_trans (levels * (lanes * stride * 9)) (omega arith) p r
+    omega arith
 
 pub no_levels : (a : Circuit) (lanes stride muls : ℕ) → Adds a a (0 * (lanes * stride * 9)) (sweep_joins lanes stride 0 * muls)
 no_levels a lanes stride muls =

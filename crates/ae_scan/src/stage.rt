@@ -6,9 +6,9 @@ ghost use Rattle.ae_scan.specs.Scans.{scan_part};
 use crate::scanning::scanned;
 use ae_clocked::Clocks;
 use ae_fold::Fold;
-use ae_netlist::{NetFault, Netlist};
+use ae_netlist::Netlist;
 use ae_ops::{Bundle, Stage};
-use std::alloc::Global;
+use std::alloc::{AllocError, Global};
 use std::marker::Model;
 
 /// The left folds of the elements of each block up to each one, word by word: elements of a type stand on lanes and in
@@ -61,7 +61,7 @@ impl Stage for Scan {
         clocks: &mut Clocks,
         ins: &[Bundle],
         arrival: u32,
-    ) -> Result<Bundle, NetFault> {
+    ) -> Result<Bundle, AllocError> {
         let plan = self.fold.plan();
         let folds = self.fold.words(alloc)?;
         let nets = ins[0].nets();

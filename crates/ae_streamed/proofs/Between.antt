@@ -13,8 +13,8 @@ use Rattle.ae_netlist.specs.Circuit.{Circuit, HaveNets, IsFormed, IsNet}
 use Rattle.ae_netlist.specs.Counts.{is_input}
 use Rattle.ae_netlist.proofs.Growing.{extends_length}
 use Rattle.ae_netlist.specs.Runs.{Clock, HasOneRun, IsReset, IsRun, no_clock, word_at}
-use Rattle.ae_clocked.specs.Signals.{Adds, Grows}
-use Rattle.ae_clocked.proofs.Turns.{word_below}
+use Rattle.ae_gates.specs.Cells.{Adds, Grows}
+use Rattle.ae_gates.proofs.Fits.{held_fits}
 use Rattle.ae_rewrite.specs.Blocks.{MakesBlocks, outlet_net}
 use Rattle.ae_stall.specs.Held.{inner_clock}
 use Rattle.ae_stall.specs.Images.{bit_input, placed, placed_net, with_inputs}
@@ -35,7 +35,7 @@ use Rattle.ae_streamed.specs.Count.{mark_cells}
 use Rattle.ae_control.specs.Controls.{control_of, ends_of}
 use Rattle.ae_control.proofs.Cells.{same_cells}
 use Rattle.ae_streamed.proofs.Phasing.{bit_of}
-use Rattle.ae_clocked.proofs.Added.{net_within}
+use Rattle.ae_gates.proofs.Added.{net_within}
 
 -- ---- outputs
 
@@ -190,8 +190,8 @@ module _ (n marked new : Circuit) (m : Marks) (slowdown latency wait : ℕ) (inp
       wired = wired;
       queued = queued;
       marked = marked_run;
-      asks = λ t l. word_below new.cells run t wrapped.by.asks.0 1 r l wrapped.asks;
-      stands = λ t l. word_below new.cells run t wrapped.by.one.0 1 r l wrapped.stands;
+      asks = λ t l. held_fits new.cells run t wrapped.by.asks.0 1 r l wrapped.asks;
+      stands = λ t l. held_fits new.cells run t wrapped.by.one.0 1 r l wrapped.stands;
     }
 
   no_paths_own : (a b : List Clock) (start : ℕ) → IsRun new.cells a → IsReset a 0 start → IsRun new.cells b → IsReset b 0 start → HasNoPaths own a b start

@@ -16,8 +16,8 @@ use Rattle.ae_netlist.specs.Runs.{InEveryRunFrom, word_at}
 use Rattle.ae_netlist.proofs.Carried.{carries_extends}
 use Rattle.ae_netlist.proofs.Growing.{extends_trans, net_later, net_width}
 use Rattle.ae_clocked.specs.Phases.{Belongs, Kept, phase_of}
-use Rattle.ae_clocked.specs.Signals.{Grows, IsConstant, IsResult}
-use Rattle.ae_clocked.proofs.Adding.{grows_trans}
+use Rattle.ae_gates.specs.Cells.{Grows, IsConstant, IsResult}
+use Rattle.ae_gates.proofs.Adding.{grows_trans}
 use Rattle.ae_clocked.proofs.Belonging.{belongs_grows}
 use Rattle.ae_stream.specs.Streams.{in_clock, is_beat}
 use Rattle.ae_streamed.specs.Beats.{GainsBit, IsBitOf}

@@ -28,7 +28,7 @@ use Rattle.ae_control.specs.Count.{control_cells}
 use Rattle.ae_control.specs.Controls.{AreWires, HasControlNets, IsControl, net}
 use Rattle.ae_control.proofs.Cells.{is_logic, longer_trans, next_first, no_input, no_mul, same_count, same_kind, there}
 use Rattle.ae_streamed.proofs.Within.{of_mapped}
-use Rattle.ae_clocked.proofs.Added.{net_within, own_net as own_width}
+use Rattle.ae_gates.proofs.Added.{net_within, own_net as own_width}
 
 -- ---- a control and its queues go on to be what they are where their cells are kept
 

@@ -1,11 +1,11 @@
 -- The cells of the bits that tell of layouts, counted.
-use Rattle.std.proofs.Common.{ℕ, zero, suc, ◌≡◌, ◌+◌, ◌≤◌, List, [], ◌∷◌, map, take, sum_by, Some, slice_get, arith, ap, ◌∙◌}
+use Rattle.std.proofs.Common.{ℕ, zero, suc, ◌≡◌, ◌+◌, ◌≤◌, List, [], ◌∷◌, map, take, sum_by, Some, slice_get, arith, ap, ◌∙◌, ◌*◌, length, refl}
 use Rattle.std.proofs.lemmas.List.Sums.{sum_by-cons, sum_by_push}
 use Rattle.ae_sttype.specs.declared.st_type.StType.{StType}
 use Rattle.ae_sttype.specs.StTree.{StTree, st_depth, st_tree}
 use Rattle.ae_netlist.specs.Circuit.{Circuit}
-use Rattle.ae_clocked.specs.Signals.{Adds}
-use Rattle.ae_clocked.proofs.Adding.{adds_most, adds_trans}
+use Rattle.ae_gates.specs.Cells.{Adds}
+use Rattle.ae_gates.proofs.Adding.{adds_most, adds_trans}
 use Rattle.ae_streamed.specs.Count.{any_beat_cells, beat_cells, mark_cells}
 use Rattle.ae_control.proofs.Cells.{next_first}
 
@@ -16,9 +16,6 @@ one_cell s p = adds_most (beat_cells s) (omega arith) p
 
 pub part_cells : {a b : Circuit} (s t : StTree) → st_depth s ≡ st_depth t + 1 → Adds a b (beat_cells t) 0 → Adds a b (beat_cells s) 0
 part_cells s t e p = adds_most (beat_cells s) (omega (arith, e)) p
-
-pub mark_more : {a b c : Circuit} (s t : StTree) → st_depth s ≡ st_depth t + 1 → Adds a b (beat_cells t) 0 → Adds b c 21 0 → Adds a c (beat_cells s) 0
-mark_more s t e p q = adds_most (beat_cells s) (omega (arith, e)) (adds_trans p q)
 
 pub gate_more : {a b c d : Circuit} (s t : StTree) → st_depth s ≡ st_depth t + 1 → Adds a b (beat_cells t) 0 → Adds b c 21 0 → Adds c d 1 0
     → Adds a d (beat_cells s) 0
@@ -53,29 +50,38 @@ pub some_cells : {a b : Circuit} (k : ℕ) (layouts : List StType) → Adds a b 
     → Adds a b (any_beat_cells (map st_tree layouts)) 0
 some_cells k layouts p = adds_most (any_beat_cells (map st_tree layouts)) (omega (arith, first_cells k layouts)) p
 
-pub stopped_cells : {a b c : Circuit} (k : ℕ) (layouts : List StType) (s : StType) → slice_get layouts k ≡ Some s
-    → Adds a b (any_beat_cells (map st_tree (take k layouts))) 0
-    → Adds b c (beat_cells (st_tree s)) 0 → Adds a c (any_beat_cells (map st_tree layouts)) 0
-stopped_cells k layouts s found p q =
-    adds_most (any_beat_cells (map st_tree layouts)) (omega (arith, next_cells k layouts s found, first_cells (k + 1) layouts)) (adds_trans p q)
+-- one layout more has room where all have
+pub turn_fits : (k : ℕ) (layouts : List StType) (s : StType) → slice_get layouts k ≡ Some s
+    → any_beat_cells (map st_tree (take k layouts)) + (beat_cells (st_tree s) + 1) ≤ any_beat_cells (map st_tree layouts)
+turn_fits k layouts s found = omega (arith, next_cells k layouts s found, first_cells (k + 1) layouts)
+
+-- ---- layouts that are at most 16 deep
+
+few_each : (layouts : List StType) → ((k : ℕ) (s : StType) → slice_get layouts k ≡ Some s → st_depth (st_tree s) ≤ 16)
+    → sum_by each (map st_tree layouts) ≤ 354 * length layouts
+few_each [] deep = omega arith
+few_each (x ∷ layouts) deep =
+    omega (arith, sum_by-cons each (st_tree x) (map st_tree layouts), deep 0 x refl, few_each layouts (λ k s found. deep (suc k) s found))
+
+some_each : (layouts : List StType) → length layouts ≤ sum_by each (map st_tree layouts)
+some_each [] = omega arith
+some_each (x ∷ layouts) = omega (arith, sum_by-cons each (st_tree x) (map st_tree layouts), some_each layouts)
+
+-- so many cells are enough for their marks
+pub marks_few : (inputs outputs : List StType) → ((k : ℕ) (s : StType) → slice_get inputs k ≡ Some s → st_depth (st_tree s) ≤ 16)
+    → ((k : ℕ) (s : StType) → slice_get outputs k ≡ Some s → st_depth (st_tree s) ≤ 16)
+    → mark_cells (map st_tree inputs) (map st_tree outputs) ≤ 65 + 354 * (length inputs + length outputs)
+marks_few inputs outputs ins outs = omega (arith, few_each inputs ins, few_each outputs outs)
+
+-- and each layout takes one at the least
+pub marks_some : (inputs outputs : List StType) → length inputs + length outputs ≤ mark_cells (map st_tree inputs) (map st_tree outputs)
+marks_some inputs outputs = omega (arith, some_each inputs, some_each outputs)
 
 -- ---- all marks
 
 module _ (inputs outputs : List StTree) where
   abbrev all : ℕ
   all = mark_cells inputs outputs
-
-  pub marks1 : {a b : Circuit} → Adds a b 21 0 → Adds a b all 0
-  marks1 p = adds_most all (omega arith) p
-
-  pub marks2 : {a b c : Circuit} → Adds a b 21 0 → Adds b c 21 0 → Adds a c all 0
-  marks2 p q = adds_most all (omega arith) (adds_trans p q)
-
-  pub marks3 : {a b c d : Circuit} → Adds a b 21 0 → Adds b c 21 0 → Adds c d (any_beat_cells inputs) 0 → Adds a d all 0
-  marks3 p q r = adds_most all (omega arith) (adds_trans (adds_trans p q) r)
-
-  pub marks4 : {a b c d e : Circuit} → Adds a b 21 0 → Adds b c 21 0 → Adds c d (any_beat_cells inputs) 0 → Adds d e (any_beat_cells outputs) 0 → Adds a e all 0
-  marks4 p q r s = adds_most all (omega arith) (adds_trans (adds_trans (adds_trans p q) r) s)
 
   pub marks5 : {a b c d e f : Circuit} → Adds a b 21 0 → Adds b c 21 0 → Adds c d (any_beat_cells inputs) 0 → Adds d e (any_beat_cells outputs) 0
       → Adds e f 21 0 → Adds a f all 0

@@ -12,7 +12,7 @@ use Rattle.ae_netlist.proofs.Gets.{get_from_take, get_left, get_pushed, get_set_
 use Rattle.ae_netlist.proofs.Growing.{Keeps, extends_refl, fits_later, keeps_extends, width_is}
 use Rattle.ae_control.specs.Controls.{net}
 use Rattle.ae_streamed.specs.Room.{IsBegun, IsMade, begun, begun_at}
-use Rattle.ae_clocked.proofs.Added.{net_own}
+use Rattle.ae_clocked.proofs.Connecting.{net_own}
 
 -- ---- cells that stand there, as they are or named after themselves
 

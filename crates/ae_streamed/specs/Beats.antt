@@ -7,7 +7,7 @@ use Rattle.ae_netlist.specs.declared.cell.SizedCell.{SizedCell}
 use Rattle.ae_netlist.specs.Circuit.{Circuit, IsNet}
 use Rattle.ae_netlist.specs.Runs.{HasWords, InEveryResetRun}
 use Rattle.ae_clocked.specs.Phases.{Belongs, Kept}
-use Rattle.ae_clocked.specs.Signals.{Grows}
+use Rattle.ae_gates.specs.Cells.{Grows}
 use Rattle.ae_stream.specs.Streams.{is_beat}
 use Rattle.ae_stream.specs.Driven.{late_clock}
 use Rattle.ae_streamed.specs.declared.marking.Marks.{Marks}

@@ -1,17 +1,18 @@
 // The bits that mark the clocks of a circuit.
 
-ghost use Rattle.std.specs.Prelude.{◌%◌, IfOk, map};
+ghost use Rattle.std.specs.Prelude.{◌%◌, IfOk, map, OnOk};
 ghost use Rattle.ae_sttype.specs.StTree.{st_tree};
 ghost use Rattle.ae_netlist.specs.Circuit.{IsNet};
-ghost use Rattle.ae_clocked.specs.Signals.{Adds, IsFullAt};
+ghost use Rattle.ae_netlist.specs.Room.{HasRoom};
+ghost use Rattle.ae_gates.specs.Cells.{Adds};
 ghost use Rattle.ae_streamed.specs.Beats.{AreLayouts, HasMarks};
 ghost use Rattle.ae_streamed.specs.Count.{mark_cells};
 
 use crate::layouts::{beat, period_bit};
 use ae_clocked::Clocks;
-use ae_netlist::{NetFault, NetId, Netlist};
+use ae_netlist::{NetId, Netlist};
 use ae_sttype::{Slowdown, StType};
-use std::alloc::Global;
+use std::alloc::{AllocError, Global};
 
 /// The bits that mark the clocks of a circuit: the first and the last clock of a block; that elements of the parameters stand
 /// in a clock of a block, and that elements of the results do, as late as the latency says; that these are of the block before.
@@ -32,12 +33,12 @@ pub fn add_marks(
     outputs: &[StType],
     slowdown: Slowdown,
     latency: u32,
-) -> Result<Marks, NetFault>
+) -> Result<Marks, AllocError>
     requires reset { IsNet nl.old.cells 0 1 }
     requires inputs { AreLayouts slowdown inputs.now }
     requires outputs { AreLayouts slowdown outputs.now }
-    ensures adds { Adds nl.old nl.new (mark_cells (map st_tree inputs.now) (map st_tree outputs.now)) 0 }
-    ensures full { IsFullAt result nl.new }
+    requires room { HasRoom nl.old (mark_cells (map st_tree inputs.now) (map st_tree outputs.now)) }
+    ensures adds { OnOk result (Adds nl.old nl.new (mark_cells (map st_tree inputs.now) (map st_tree outputs.now)) 0) }
     ensures marks { IfOk result (λ m. HasMarks nl.new.cells m slowdown (latency % slowdown) (map st_tree inputs.now) (map st_tree outputs.now)) }
 {
     let period = slowdown.clocks();

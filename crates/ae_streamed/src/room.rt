@@ -1,12 +1,13 @@
 // The same netlist with room for more cells: what `tidy` makes has none.
 
-ghost use Rattle.std.specs.Prelude.{◌≡◌, ◌+◌, ◌<◌, ◌↔◌, ◌≢◌, [], Err, IsTrue, OnOk, IfErr, IfOk, Some, length, slice_get};
+ghost use Rattle.std.specs.Prelude.{◌≡◌, ◌+◌, ◌<◌, ◌≤◌, ◌↔◌, [], IsTrue, OnOk, IfOk, Some, length, slice_get};
 ghost use Rattle.ae_netlist.specs.Circuit.{NamesItself};
+ghost use Rattle.ae_netlist.specs.Room.{HasRoom};
 ghost use Rattle.ae_streamed.specs.Room.{IsBegun, IsMade};
 
-use ae_netlist::{Cell, NetFault, NetId, Netlist, Outlet, SizedCell};
+use ae_netlist::{Cell, NetId, Netlist, Outlet, SizedCell};
 use ae_word::Width;
-use std::alloc::Global;
+use std::alloc::{AllocError, Global};
 
 fn cell_at(nl: &Netlist, n: u32) -> SizedCell
     requires { n < length nl.now.cells }
@@ -23,11 +24,11 @@ fn outlet_at(nl: &Netlist, k: u32) -> Outlet
 }
 
 /// Adds cell `n`; a register or a memory names itself.
-fn begin_cell(nl: &Netlist, n: u32, new: &mut Netlist) -> Result<(), NetFault>
+fn begin_cell(nl: &Netlist, n: u32, new: &mut Netlist) -> Result<(), AllocError>
     requires below { n < length nl.now.cells }
     requires begun { IsBegun nl.now.cells new.old.cells n }
+    requires room { HasRoom new.old 1 }
     ensures begun { OnOk result (IsBegun nl.now.cells new.new.cells (n + 1)) }
-    ensures full { IfErr result (λ fault. fault ≡ NetFault.Full → length new.old.cells ≡ new.old.limit) }
     ensures limit { OnOk result (new.new.limit ≡ new.old.limit) }
     ensures outlets { OnOk result (new.new.outlets ≡ new.old.outlets) }
 {
@@ -35,13 +36,13 @@ fn begin_cell(nl: &Netlist, n: u32, new: &mut Netlist) -> Result<(), NetFault>
     let sized = cell_at(nl, n);
     match sized.cell {
         Cell::Reg { next: _ } => {
-            new.state(Width { bits: sized.width })?;
+            new.push_register(Width { bits: sized.width })?;
         }
         Cell::Mem { depth, .. } => {
-            new.memory(Width { bits: sized.width }, depth)?;
+            new.push_memory(Width { bits: sized.width }, depth)?;
         }
         Cell::Input(_) | Cell::Const(_) | Cell::Op(_, _) | Cell::Peek { .. } => {
-            new.add(Width { bits: sized.width }, sized.cell)?;
+            new.push(Width { bits: sized.width }, sized.cell)?;
         }
     }
     Ok(())
@@ -82,10 +83,10 @@ fn connect_cell(nl: &Netlist, n: u32, new: &mut Netlist)
 }
 
 /// Adds all cells.
-fn begin(nl: &Netlist, new: &mut Netlist) -> Result<(), NetFault>
+fn begin(nl: &Netlist, new: &mut Netlist) -> Result<(), AllocError>
     requires none { new.old.cells ≡ [] }
+    requires room { length nl.now.cells ≤ new.old.limit }
     ensures begun { OnOk result (IsBegun nl.now.cells new.new.cells (length nl.now.cells)) }
-    ensures full { IfErr result (λ fault. fault ≡ NetFault.Full → new.old.limit < length nl.now.cells) }
     ensures limit { OnOk result (new.new.limit ≡ new.old.limit) }
     ensures outlets { OnOk result (new.new.outlets ≡ new.old.outlets) }
 {
@@ -108,10 +109,9 @@ fn connect(nl: &Netlist, new: &mut Netlist)
 }
 
 /// Adds all outputs.
-fn show(nl: &Netlist, new: &mut Netlist) -> Result<(), NetFault>
+fn show(nl: &Netlist, new: &mut Netlist) -> Result<(), AllocError>
     requires cells { new.old.cells ≡ nl.now.cells }
     requires none { new.old.outlets ≡ [] }
-    ensures fault { result ≢ Err NetFault.Full }
     ensures cells { OnOk result (new.new.cells ≡ nl.now.cells) }
     ensures limit { OnOk result (new.new.limit ≡ new.old.limit) }
     ensures outlets { OnOk result (new.new.outlets ≡ nl.now.outlets) }
@@ -124,10 +124,10 @@ fn show(nl: &Netlist, new: &mut Netlist) -> Result<(), NetFault>
     Ok(())
 }
 
-/// The same netlist with another limit. `Full` comes only where it has more cells than this.
-pub fn with_limit(alloc: Global, nl: &Netlist, limit: u32) -> Result<Netlist, NetFault>
-    ensures same { IfOk result (λ new. new ≡ record nl.now { limit = limit }) }
-    ensures full { IfErr result (λ fault. fault ≡ NetFault.Full → limit < length nl.now.cells) }
+/// The same netlist with another limit, which it does not pass.
+pub fn with_limit(alloc: Global, nl: &Netlist, limit: u32) -> Result<Netlist, AllocError>
+    requires { length nl.now.cells ≤ limit }
+    ensures { IfOk result (λ new. new ≡ record nl.now { limit = limit }) }
 {
     let mut new = Netlist::new(alloc, limit);
     begin(nl, &mut new)?;

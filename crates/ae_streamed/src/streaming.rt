@@ -24,6 +24,12 @@ use std::alloc::Global;
 // How many cells a circuit may have with the marks of its clocks.
 const MARKED_LIMIT: u32 = 1_000_000;
 
+// The marks of more layouts have more cells than that.
+const MOST_LAYOUTS: usize = 1_000_000;
+
+// More cells than the marks of a layout have, which is at most 16 deep.
+const LAYOUT_CELLS: u32 = 354;
+
 /// The last clock in which an element of a layout stands.
 fn last_clock(layout: &StType) -> u32
     requires { IsInSize (st_tree layout.now) }
@@ -93,8 +99,15 @@ pub fn stream(
     driven_circuits_keep_words();
     driven_circuits_go_on();
     wired_controls_have_no_paths();
-    let mut marked = with_limit(alloc, nl, MARKED_LIMIT)?;
+    if nl.len() > MARKED_LIMIT || inputs.len() > MOST_LAYOUTS || outputs.len() > MOST_LAYOUTS {
+        return Err(NetFault::Full);
+    }
+    let layouts = inputs.len() as u32 + outputs.len() as u32;
+    let mut marked = with_limit(alloc, nl, MARKED_LIMIT + 65 + LAYOUT_CELLS * layouts)?;
     let m = add_marks(alloc, &mut marked, inputs, outputs, slowdown, latency)?;
+    if marked.len() > MARKED_LIMIT {
+        return Err(NetFault::Full);
+    }
     marked.formed();
     let period = slowdown.clocks();
     let wait = (latency + last_beat(outputs, slowdown)) / period;

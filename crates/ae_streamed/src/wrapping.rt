@@ -1,21 +1,22 @@
 // A marked circuit between two channels: a copy of it, the control and the queues around it, and the outputs.
 
-ghost use Rattle.std.specs.Prelude.{◌≡◌, ◌+◌, ◌*◌, ◌<◌, ◌≤◌, ◌++◌, ◌∷◌, [], ◌≢◌, Err, OnOk, IfErr, IfOk, ℕ, Some, length, slice_get};
+ghost use Rattle.std.specs.Prelude.{◌≡◌, ◌+◌, ◌*◌, ◌<◌, ◌≤◌, ◌++◌, ◌∷◌, [], OnOk, IfErr, IfOk, ℕ, Some, length, slice_get};
 ghost use Rattle.ae_netlist.specs.Circuit.{IsNet, width_of};
 ghost use Rattle.ae_netlist.specs.Counts.{AreWhole};
+ghost use Rattle.ae_netlist.specs.Room.{HasRoom};
 ghost use Rattle.ae_stall.specs.Copies.{HasLogicAround, IsCopied, MayBeHeld, reset_cell};
 ghost use Rattle.ae_stall.specs.Held.{IsHeld};
 ghost use Rattle.ae_stall.specs.Images.{placed_net};
 ghost use Rattle.ae_streamed.specs.Between.{AreMarkNets, AreShownBy, HasDriver, IsWrapped, channel_inputs, copied_nets, wires_of};
 ghost use Rattle.ae_control.specs.Controls.{AreWires};
-ghost use Rattle.ae_control.specs.Count.{IsFullFor, control_cells};
+ghost use Rattle.ae_control.specs.Count.{control_cells};
 ghost use Rattle.ae_streamed.specs.Count.{wrapped_cells};
 
 use crate::marking::Marks;
 use ae_control::{Controlled, Wires, columns, control};
 use ae_netlist::{Handshake, NetFault, NetId, Netlist, Outlet, Port};
 use ae_stall::{HoldBy, copy_with, hold_copy};
-use std::alloc::Global;
+use std::alloc::{AllocError, Global};
 
 /// The most cells of a circuit between two channels.
 const LIMIT: u32 = 4000000;
@@ -56,11 +57,10 @@ fn placed_wires(nl: &Netlist, m: Marks) -> Wires
 }
 
 /// The copy of a netlist, with two more inputs.
-fn copied(alloc: Global, nl: &Netlist) -> Result<Netlist, NetFault>
+fn copied(alloc: Global, nl: &Netlist) -> Result<Netlist, AllocError>
     requires reset { slice_get nl.now.cells 0 ≡ Some reset_cell }
     requires most { length nl.now.cells ≤ 1000000 }
     ensures limit { IfOk result (λ new. new.limit ≡ 4000000) }
-    ensures fault { result ≢ Err NetFault.Full }
     ensures copied { IfOk result (λ new. IsCopied channel_inputs nl.now.cells new.cells (length nl.now.cells)) }
     ensures none { IfOk result (λ new. new.outlets ≡ []) }
 {
@@ -80,10 +80,9 @@ fn outlet_at(nl: &Netlist, k: u32) -> Outlet
 }
 
 /// Where the copy has the nets of the outputs.
-fn outlet_nets(alloc: Global, nl: &Netlist) -> Result<Vec<NetId>, NetFault>
+fn outlet_nets(alloc: Global, nl: &Netlist) -> Result<Vec<NetId>, AllocError>
     requires most { length nl.now.cells ≤ 1000000 }
-    ensures nets { IfOk result (λ nets. nets.items ≡ copied_nets nl.now.outlets) }
-    ensures fault { result ≢ Err NetFault.Full }
+    ensures { IfOk result (λ nets. nets.items ≡ copied_nets nl.now.outlets) }
 {
     nl.formed();
     let mut nets = Vec::new(alloc);
@@ -96,11 +95,10 @@ fn outlet_nets(alloc: Global, nl: &Netlist) -> Result<Vec<NetId>, NetFault>
 }
 
 /// Adds an output.
-fn show(new: &mut Netlist, port: Port, net: NetId) -> Result<(), NetFault>
+fn show(new: &mut Netlist, port: Port, net: NetId) -> Result<(), AllocError>
     requires net { IsNet new.old.cells net.0 (width_of new.old.cells net.0) }
     requires room { length new.old.outlets < 4294967295 }
-    ensures shown { OnOk result (new.new ≡ record new.old { outlets = new.old.outlets ++ (record { port = port; net = net }) ∷ [] }) }
-    ensures fault { result ≢ Err NetFault.Full }
+    ensures { OnOk result (new.new ≡ record new.old { outlets = new.old.outlets ++ (record { port = port; net = net }) ∷ [] }) }
 {
     new.add_output(port, net)?;
     Ok(())
@@ -108,13 +106,12 @@ fn show(new: &mut Netlist, port: Port, net: NetId) -> Result<(), NetFault>
 
 /// Adds the outputs: that the source is asked, that words stand at the sink, and the words of a queue for each output of the
 /// netlist.
-fn show_all(nl: &Netlist, new: &mut Netlist, c: Controlled, at: u32) -> Result<(), NetFault>
+fn show_all(nl: &Netlist, new: &mut Netlist, c: Controlled, at: u32) -> Result<(), AllocError>
     requires none { new.old.outlets ≡ [] }
     requires asks { IsNet new.old.cells c.asks.0 1 }
     requires one { IsNet new.old.cells c.one.0 1 }
     requires nets { (k : ℕ) → k < length nl.now.outlets → IsNet new.old.cells (at + 4 * k) (width_of new.old.cells (at + 4 * k)) }
     requires few { length nl.now.outlets ≤ 1000000000 }
-    ensures fault { result ≢ Err NetFault.Full }
     ensures cells { OnOk result (new.new.cells ≡ new.old.cells) }
     ensures limit { OnOk result (new.new.limit ≡ new.old.limit) }
     ensures shown { OnOk result (AreShownBy c at nl.now.outlets new.new.outlets) }
@@ -137,7 +134,7 @@ fn drive(
     blocks: u32,
     wait: u32,
     made: &[NetId],
-) -> Result<Controlled, NetFault>
+) -> Result<Controlled, AllocError>
     requires marks { (m : Marks) × (w ≡ wires_of m) }
     requires few { blocks ≤ 1000000 }
     requires waits { wait ≤ blocks + 1 }
@@ -147,9 +144,9 @@ fn drive(
     requires nets { (k : ℕ) (net : NetId) → slice_get made.now k ≡ Some net → IsNet new.old.cells net.0 (width_of new.old.cells net.0) }
     requires columns { length nl.now.outlets ≤ 1000000000 }
     requires shown { length made.now ≡ length nl.now.outlets }
+    requires room { HasRoom new.old (control_cells blocks + 4 * length nl.now.outlets) }
     ensures driver { IfOk result (λ c. (m : Marks) → w ≡ wires_of m → HasDriver new.old new.new m blocks wait made.now nl.now.outlets c) }
     ensures few { OnOk result (length new.new.cells ≤ length new.old.cells + control_cells blocks + 4 * length nl.now.outlets) }
-    ensures full { IsFullFor result new.old (control_cells blocks + 4 * length nl.now.outlets) }
 {
     let c = control(new, w, blocks, wait)?;
     let at = new.len();
@@ -159,17 +156,24 @@ fn drive(
 }
 
 /// Holds the copy of a netlist. Memories stay whole where there are none beside the copy.
-fn hold(nl: &Netlist, by: NetId, new: &mut Netlist) -> Result<(), NetFault>
+fn hold(nl: &Netlist, by: NetId, new: &mut Netlist) -> Result<(), AllocError>
     requires reset { slice_get nl.now.cells 0 ≡ Some reset_cell }
     requires most { length nl.now.cells ≤ 1000000 }
     requires may { MayBeHeld 2 by.0 nl.now.cells new.old.cells }
     requires room { length new.old.cells + length nl.now.cells ≤ new.old.limit + 1 }
     ensures held { OnOk result (IsHeld 2 by.0 nl.now new.old new.new) }
     ensures whole { OnOk result (HasLogicAround 2 nl.now.cells new.old.cells → AreWhole nl.now.cells → AreWhole new.new.cells) }
-    ensures fault { result ≢ Err NetFault.Full }
 {
     hold_copy(nl, HoldBy { more: 2, by }, new)?;
     Ok(())
+}
+
+/// How many cells a circuit of so many cells and outputs, whose latency is so many blocks and some clocks, has at most between
+/// two channels.
+fn most_cells(cells: u32, outputs: u32, blocks: u32) -> u64
+    ensures { result ≡ wrapped_cells cells outputs blocks }
+{
+    2 * u64::from(cells) + 4 * u64::from(blocks) + 4 * u64::from(outputs) + 37
 }
 
 /// A marked circuit with a control around it, whose latency is so many blocks and some clocks; as long as one of the first `wait`
@@ -191,13 +195,13 @@ pub fn wrap(
     ensures full { IfErr result (λ fault. fault ≡ NetFault.Full → 4000000 ≤ wrapped_cells (length nl.now.cells) (length nl.now.outlets) blocks) }
 {
     nl.formed();
+    if most_cells(nl.len(), nl.outputs(), blocks) > u64::from(LIMIT) {
+        return Err(NetFault::Full);
+    }
     let mut new = copied(alloc, nl)?;
     let w = placed_wires(nl, m);
     let made = outlet_nets(alloc, nl)?;
     let c = drive(nl, &mut new, w, blocks, wait, &made)?;
-    if new.len() > LIMIT - nl.len() {
-        return Err(NetFault::Full);
-    }
     hold(nl, c.enable, &mut new)?;
     Ok(new)
 }

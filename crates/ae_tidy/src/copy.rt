@@ -50,7 +50,7 @@ fn copy_kept(
         return Ok(());
     }
     let made = append(new, image)?;
-    seen.put(image, made);
+    seen.put(image, made)?;
     table.add(NetId(n), made)?;
     Ok(())
 }
@@ -163,7 +163,7 @@ pub fn copy(alloc: Global, nl: &Netlist, keep: &[bool], marks: &[u32]) -> Result
     has_one_run(nl);
     let mut new = Netlist::new(alloc, nl.len());
     let mut table = Table::new(alloc);
-    let mut seen = Seen::new(alloc, nl.len())?;
+    let mut seen = Seen::new(alloc);
     for n in 0..nl.len() {
         copy_cell(nl, keep, n, &mut new, &mut table, &mut seen)?;
     }

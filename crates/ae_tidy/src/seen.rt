@@ -1,48 +1,78 @@
 // Cells that are there already, found again by what they are.
 
-ghost use Rattle.std.specs.Prelude.{◌≡◌, ◌<◌, IfSome, IsTrue, length, true};
+ghost use Rattle.std.specs.Prelude.{◌≡◌, IfSome, IsTrue, true};
 ghost use Rattle.ae_tidy.specs.Images.{IsThere, may_merge};
 
 use crate::table::is_late;
 use ae_netlist::{Cell, NetId, Netlist, SizedCell};
 use ae_word::{WordOp, multiplies};
+use indexmap::IndexMap;
 use std::alloc::{AllocError, Global};
 
-/// How many places are tried for a cell.
-const TRIES: usize = 8;
-
-/// A table of nets by a number made of their cells. A hit is compared with the cell itself, and a cell that finds no
-/// free place takes another's: so a cell may be missed, and never taken for another.
+/// A table of nets by a number made of their cells. A hit is compared with the cell itself, and of two cells with one number
+/// the later stays: so a cell may be missed, and never taken for another.
 #[derive(Drop)]
 pub struct Seen {
-    places: Vec<Option<NetId>>,
-    ghost some: { 0 < length places.items },
+    nets: IndexMap<u64, NetId>,
 }
+
+/// Where each number of a cell begins: not at 0, which would stay 0 with a part that is 0.
+const SEED: u64 = 0x2545_F491_4F6C_DD1D;
 
 fn mix(code: u64, part: u64) -> u64 {
     let mixed = (code ^ part).wrapping_mul(0x9E37_79B9_7F4A_7C15);
     mixed ^ (mixed >> 29)
 }
 
+/// A number of four parts; as each has four, no short list of parts runs into a long one.
+fn number(kind: u64, first: u64, second: u64, third: u64) -> u64 {
+    mix(mix(mix(mix(SEED, kind), first), second), third)
+}
+
+/// Another number for each operator, and for each amount that is part of it.
+fn op_kind(op: WordOp) -> u64 {
+    match op {
+        WordOp::Add => 0,
+        WordOp::Sub => 1,
+        WordOp::Mul => 2,
+        WordOp::And => 3,
+        WordOp::Or => 4,
+        WordOp::Xor => 5,
+        WordOp::Not => 6,
+        WordOp::Min => 7,
+        WordOp::Max => 8,
+        WordOp::Eq => 9,
+        WordOp::Lt => 10,
+        WordOp::Mux => 11,
+        WordOp::SLt => 12,
+        WordOp::SMin => 13,
+        WordOp::SMax => 14,
+        WordOp::Shl(places) => 15 + 32 * u64::from(places),
+        WordOp::Shr(places) => 16 + 32 * u64::from(places),
+        WordOp::Cast(bits) => 17 + 32 * u64::from(bits),
+        WordOp::Sar(places) => 18 + 32 * u64::from(places),
+        WordOp::SCast(bits) => 19 + 32 * u64::from(bits),
+    }
+}
+
 fn code(sized: SizedCell) -> u64 {
     match sized.cell {
-        Cell::Const(word) => mix(mix(1, u64::from(sized.width)), word),
-        Cell::Op(_, args) => {
-            let first = mix(2, u64::from(args[0].0));
-            mix(mix(first, u64::from(args[1].0)), u64::from(args[2].0))
-        }
-        Cell::Reg { next } => mix(3, u64::from(next.0)),
+        Cell::Op(op, args) => number(
+            op_kind(op),
+            u64::from(args[0].0),
+            u64::from(args[1].0),
+            u64::from(args[2].0),
+        ),
+        Cell::Const(word) => number(20, u64::from(sized.width), word, 0),
+        Cell::Reg { next } => number(21, u64::from(next.0), 0, 0),
         Cell::Mem {
             depth: _,
             at,
             next,
             enable,
-        } => {
-            let first = mix(4, u64::from(at.0));
-            mix(mix(first, u64::from(next.0)), u64::from(enable.0))
-        }
-        Cell::Peek { mem, at } => mix(mix(5, u64::from(mem.0)), u64::from(at.0)),
-        Cell::Input(_) => 0,
+        } => number(22, u64::from(at.0), u64::from(next.0), u64::from(enable.0)),
+        Cell::Peek { mem, at } => number(23, u64::from(mem.0), u64::from(at.0), 0),
+        Cell::Input(_) => number(24, 0, 0, 0),
     }
 }
 
@@ -115,17 +145,11 @@ fn has_cell(nl: &Netlist, net: NetId, sized: SizedCell) -> bool
 }
 
 impl Seen {
-    /// A table with two places for each of so many cells.
-    pub fn new(alloc: Global, cells: u32) -> Result<Seen, AllocError> {
-        let places = vec![in alloc; None; 2 * cells as usize + TRIES]?;
-        Ok(Seen { places })
-    }
-
-    fn place(&self, code: u64, k: usize) -> usize
-        ensures { result < length self.now.places.items }
-    {
-        let many = self.places.len() as u64;
-        (code.wrapping_add(k as u64) % many) as usize
+    /// A table without nets. Takes no memory.
+    pub fn new(alloc: Global) -> Seen {
+        Seen {
+            nets: IndexMap::new(alloc),
+        }
     }
 
     /// A net that has this cell, if it is found; never a register or a memory that is not connected yet.
@@ -135,28 +159,22 @@ impl Seen {
         if !may_merge(sized.cell) {
             return None;
         }
-        let code = code(sized);
-        for k in 0..TRIES {
-            if let Some(net) = self.places[self.place(code, k)] {
+        match self.nets.get(&code(sized)).copied() {
+            Some(net) => {
                 if has_cell(nl, net, sized) {
                     return Some(net);
                 }
+                None
             }
+            None => None,
         }
-        None
     }
 
     /// Keeps the net of a cell.
-    pub fn put(&mut self, sized: SizedCell, net: NetId) {
-        let code = code(sized);
-        for k in 0..TRIES {
-            let place = self.place(code, k);
-            if self.places[place].is_none() {
-                self.places[place] = Some(net);
-                return;
-            }
+    pub fn put(&mut self, sized: SizedCell, net: NetId) -> Result<(), AllocError> {
+        match self.nets.insert(code(sized), net) {
+            Ok(_) => Ok(()),
+            Err(_) => Err(AllocError),
         }
-        let place = self.place(code, 0);
-        self.places[place] = Some(net);
     }
 }

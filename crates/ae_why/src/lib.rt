@@ -1,26 +1,18 @@
 //! Refusals explained to a person: where on the line it is, which rule failed, what was found, and what is near it.
 #![tactic(auto)]
 
-mod above;
-mod forms;
 mod layouts;
-mod lines;
 mod loads;
 mod module;
 mod moves;
-mod names;
-mod nodes;
-mod places;
 mod rows;
 mod sorts;
-mod spelling;
 mod types;
 mod watch;
 mod waves;
 mod words;
 
 pub use layouts::no_layout;
-pub use lines::bad_line;
 pub use loads::{large_moves, too_large};
 pub use module::{ModuleFault, bad_module};
 pub use moves::not_moves;

@@ -1,7 +1,6 @@
 // Why a Verilog text is no module that is simulated.
 
-use crate::names::is_known;
-use crate::places::{place_of, push_place, text_of};
+use ae_places::{is_known, place_of, push_place, text_of};
 use ae_vmodule::VModule;
 use ae_vread::read;
 use std::alloc::{AllocError, Global};

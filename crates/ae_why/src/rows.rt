@@ -1,8 +1,8 @@
 // Why a row is not right, and why a run is too long.
 
-use crate::places::{Field, fields, place_behind, place_of, push_marked};
 use crate::sorts::program_of;
 use ae_parse::{next_field, next_line, number, said, split};
+use ae_places::{Field, fields, place_behind, place_of, push_marked};
 use ae_seq::{Param, Program};
 use std::alloc::{AllocError, Global};
 

@@ -1,7 +1,7 @@
 // The items of a program that stand above a line, and their types.
 
-use crate::places::line_at;
 use ae_parse::{ParseFault, parse};
+use ae_places::line_at;
 use ae_seq::{CheckFault, Func, Node, Program, Typed, check};
 use std::alloc::{AllocError, Global};
 

@@ -1,8 +1,8 @@
 // Why a line has no type.
 
-use crate::places::{Field, fields, line_at, push_marked, text_of};
 use crate::sorts::{Spot, item_name, node_at, program_of, spot_of, typed_above};
 use ae_parse::{next_field, said};
+use ae_places::{Field, fields, line_at, push_marked, text_of};
 use ae_seq::{Func, Node, Op, Program, Typed};
 use ae_seqtype::SeqType;
 use ae_word::{WordOp, arity};

@@ -1,6 +1,6 @@
 // Why a text is no dump that is read.
 
-use crate::places::push_place;
+use ae_places::push_place;
 use std::alloc::{AllocError, Global};
 
 fn is_blank(byte: u8) -> bool {

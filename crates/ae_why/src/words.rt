@@ -1,6 +1,6 @@
 // Why words name no job.
 
-use crate::names::nearest;
+use ae_places::nearest;
 use std::alloc::{AllocError, Global};
 
 const JOBS: [&str; 12] = [

@@ -10,11 +10,12 @@ use ae_chart::load_of_moves;
 use ae_compile::{LOAD_LIMIT, OutOfMemory, STALL_LIMIT};
 use ae_items::program_part;
 use ae_sttype::Slowdown;
+use ae_syntax::bad_line;
 use ae_tool::{
     Command, Reply, Status, VFaultKind, command_named, demo_size, outcome, refusal_line,
 };
 use ae_why::{
-    ModuleFault, Watch, bad_line, bad_module, bad_row, bad_sim_row, bad_type, bad_wave, bad_words,
+    ModuleFault, Watch, bad_module, bad_row, bad_sim_row, bad_type, bad_wave, bad_words,
     large_moves, long_run, no_layout, not_moves, too_large,
 };
 use std::alloc::{AllocError, Global};

@@ -8,6 +8,7 @@ use Rattle.ae_netlist.specs.declared.cell.SizedCell.{SizedCell}
 use Rattle.ae_netlist.specs.Circuit.{IsNet, Extends}
 use Rattle.ae_netlist.proofs.Gets.{get_push_cases}
 use Rattle.ae_netlist.proofs.Growing.{net_later}
+use Rattle.ae_clocked.specs.Phases.{Belongs, Kept}
 use Rattle.ae_ops.specs.Waves.{AreNets}
 use Rattle.ae_ops.specs.Blocks.{stream_of, AreBundles, Stream, stream_widths}
 
@@ -41,3 +42,8 @@ one_bundle cells ins n x em h = rw em (record { long = refl; each = each })
         let y : x ≡ nets = cc in
         subst (λ (v : Stream). AreNets cells (stream_widths v) nets) s (subst (λ (v : List NetId). AreNets cells (stream_widths (stream_of (grid n))) v) y h)
     each (suc k) stream nets f g = cc
+
+-- nothing is kept yet of a netlist with a reset
+pub belongs_new : (clocks : Kept) (cells : List SizedCell) (rst : ℕ) → clocks ≡ record { rst = rst; counters = []; marks = [] } → IsNet cells rst 1
+    → Belongs clocks cells
+belongs_new clocks cells rst is h = rw is (record { rst = h; counters = λ phase net found. cc; marks = λ mark net found. cc })

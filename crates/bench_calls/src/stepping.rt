@@ -1,11 +1,13 @@
 // The steps of the simulator.
 
-ghost use Rattle.std.specs.Prelude.{IfOk, ◌≡◌, length};
+ghost use Rattle.std.specs.Prelude.{IfOk, OnOk, ◌≡◌, ◌≤◌, length};
 ghost use Rattle.ae_netlist.specs.Circuit.{IsNet};
+ghost use Rattle.ae_netlist.specs.Room.{HasRoom};
 ghost use Rattle.ae_netlist.specs.Counts.{is_input, count_of};
+ghost use Rattle.ae_gates.specs.Cells.{Adds};
 
-use ae_clocked::{choose, constant, less, sum};
-use ae_netlist::{NetFault, NetId, Netlist, Port};
+use ae_gates::{choose, constant, less, sum};
+use ae_netlist::{NetId, Netlist, Port};
 use ae_sim::Sim;
 use ae_word::Width;
 use std::alloc::{AllocError, Global};
@@ -19,11 +21,11 @@ struct Pair {
 }
 
 // Three cells: a sum, a comparison with it, and a choice.
-fn group(nl: &mut Netlist, pair: Pair) -> Result<Pair, NetFault>
+fn group(nl: &mut Netlist, pair: Pair) -> Result<Pair, AllocError>
     requires left { IsNet nl.old.cells pair.left.0 16 }
     requires right { IsNet nl.old.cells pair.right.0 16 }
-    ensures inputs { count_of is_input nl.new.cells ≡ count_of is_input nl.old.cells }
-    ensures outlets { nl.new.outlets ≡ nl.old.outlets }
+    requires room { HasRoom nl.old 3 }
+    ensures adds { OnOk result (Adds nl.old nl.new 3 0) }
     ensures left { IfOk result (λ p. IsNet nl.new.cells p.left.0 16) }
     ensures right { IfOk result (λ p. IsNet nl.new.cells p.right.0 16) }
 {
@@ -38,7 +40,8 @@ fn group(nl: &mut Netlist, pair: Pair) -> Result<Pair, NetFault>
 }
 
 // A netlist of so many groups.
-fn circuit(alloc: Global, groups: u32) -> Result<Netlist, NetFault>
+fn circuit(alloc: Global, groups: u32) -> Result<Netlist, AllocError>
+    requires { groups ≤ 3000000 }
     ensures inputs { IfOk result (λ nl. count_of is_input nl.cells ≡ 0) }
     ensures outlets { IfOk result (λ nl. length nl.outlets ≡ 1) }
 {
@@ -49,13 +52,11 @@ fn circuit(alloc: Global, groups: u32) -> Result<Netlist, NetFault>
         left: first,
         right: second,
     };
-    for _ in 0..groups {
+    for made in 0..groups {
         pair = group(&mut nl, pair)?;
     }
-    match nl.add_output(Port::Plain(0), pair.right) {
-        Ok(()) => Ok(nl),
-        Err(_) => Err(NetFault::Memory),
-    }
+    nl.add_output(Port::Plain(0), pair.right)?;
+    Ok(nl)
 }
 
 // The word of the output in the last of so many clocks.
@@ -72,6 +73,9 @@ fn run(alloc: Global, nl: &Netlist, clocks: u32) -> Result<u64, AllocError>
 
 /// Steps a netlist of so many groups of three cells for so many clocks, and tells a word of the last.
 pub fn step(alloc: Global, out: &mut Page, groups: u32, clocks: u32) {
+    if groups > 3_000_000 {
+        return out.say("no room\n");
+    }
     let Ok(nl) = circuit(alloc, groups) else {
         return out.say("no room\n");
     };

@@ -1,12 +1,13 @@
 -- What the calls require of nets, from what a look at their cells tells.
-use Rattle.std.proofs.Common.{ℕ, ◌≡◌, List, [], Some, slice_get, ap}
+use Rattle.std.proofs.Common.{ℕ, ◌≡◌, List, [], Some, slice_get, Result, Ok, Err, OnOk, OnErr, ap}
 use Rattle.ae_netlist.specs.declared.cell.NetId.{NetId}
 use Rattle.ae_netlist.specs.declared.cell.Cell.{Cell}
 use Rattle.ae_netlist.specs.declared.cell.Cell.TheVariants.{Input, Reg, Mem}
 use Rattle.ae_netlist.specs.declared.cell.Port.{Port}
 use Rattle.ae_netlist.specs.declared.cell.Port.TheVariants.{Reset}
 use Rattle.ae_netlist.specs.declared.cell.SizedCell.{SizedCell}
-use Rattle.ae_netlist.specs.Circuit.{IsAddress, IsMemory, IsNet, IsPlain, IsRegister, IsWritten, depth_of, depth_in, width_of, width_in}
+use Rattle.ae_netlist.specs.declared.netlist.NetFault.{NetFault}
+use Rattle.ae_netlist.specs.Circuit.{Circuit, IsAddress, IsMemory, IsNet, IsPlain, IsRegister, IsWritten, depth_of, depth_in, width_of, width_in}
 use Rattle.ae_clocked.specs.Phases.{Belongs}
 use Rattle.ae_stall.specs.Copies.{reset_cell}
 
@@ -46,3 +47,9 @@ pub reset_there : (cells : List SizedCell) (v : ℕ) (cell : Cell) (port : Port)
     → cell ≡ Input port → port ≡ Reset
     → slice_get cells 0 ≡ Some reset_cell
 reset_there cells v cell port found wide is named = rw (wide, is, named) at found
+
+-- an added cell leaves the limit
+pub same_limit : (old new : Circuit) (r : Result NetId NetFault) (cells : List SizedCell) → OnOk r (new ≡ record old { cells = cells }) → OnErr r (new ≡ old)
+    → new.limit ≡ old.limit
+same_limit old new (Ok n) cells added kept = ap (λ (c : Circuit). c.limit) added
+same_limit old new (Err e) cells added kept = ap (λ (c : Circuit). c.limit) kept

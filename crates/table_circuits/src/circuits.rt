@@ -1,7 +1,6 @@
 // Small circuits, and their layouts.
 
-use crate::nets::{net, register};
-use ae_clocked::{constant, sum};
+use crate::nets::{add_sum, net, register};
 use ae_netlist::{Cell, Netlist, Port};
 use ae_sttype::StType;
 use ae_word::{Atom, Width};
@@ -23,7 +22,7 @@ fn late(nl: &mut Netlist, x: u32) -> Option<u32> {
 }
 
 fn one(nl: &mut Netlist) -> Option<u32> {
-    match constant(nl, Width { bits: 8 }, 1) {
+    match nl.add(Width { bits: 8 }, Cell::Const(1)) {
         Ok(net) => Some(net.0),
         Err(_) => None,
     }
@@ -43,7 +42,7 @@ fn added(nl: &mut Netlist, a: u32, b: u32) -> Option<u32> {
     let Some(right) = net(nl, b, 8) else {
         return None;
     };
-    match sum(nl, left, right, Width { bits: 8 }) {
+    match add_sum(nl, left, right, Width { bits: 8 }) {
         Ok(net) => Some(net.0),
         Err(_) => None,
     }

@@ -2,9 +2,8 @@
 
 ghost use Rattle.std.specs.Prelude.{◌≡◌, ◌<◌, ◌-◌};
 
-use crate::nets::{address, any_net, memory, net, register};
+use crate::nets::{add_sum, address, any_net, memory, net, register};
 use crate::stepping::step_all;
-use ae_clocked::{constant, sum};
 use ae_netlist::{Cell, NetFault, NetId, Netlist, Port};
 use ae_tidy::tidy;
 use ae_word::Width;
@@ -30,7 +29,7 @@ fn add_constant(nl: &mut Netlist, line: &str) -> Answer {
     let word = u64::from(number_at(line, 2));
     let bits = width.bits();
     if bits < 64 && word < 1u64 << bits {
-        Some(constant(nl, width, word))
+        Some(nl.add(width, Cell::Const(word)))
     } else {
         None
     }
@@ -41,7 +40,7 @@ fn add(nl: &mut Netlist, line: &str) -> Answer {
     let bits = width.bits();
     let a = net(nl, number_at(line, 2), bits)?;
     let b = net(nl, number_at(line, 3), bits)?;
-    Some(sum(nl, a, b, width))
+    Some(add_sum(nl, a, b, width))
 }
 
 fn state(nl: &mut Netlist, line: &str) -> Answer {
@@ -103,7 +102,8 @@ fn write(nl: &mut Netlist, line: &str) -> Answer {
 
 /// An output that shows the net of a number.
 pub fn show_output(nl: &mut Netlist, number: u32) -> Answer
-    ensures { nl.new.cells ≡ nl.old.cells }
+    ensures cells { nl.new.cells ≡ nl.old.cells }
+    ensures limit { nl.new.limit ≡ nl.old.limit }
 {
     let Some(net) = any_net(nl, number) else {
         return None;

@@ -3,8 +3,9 @@
 ghost use Rattle.std.specs.Prelude.{◌≤◌, ◌^◌, IfSome, IsTrue};
 ghost use Rattle.ae_netlist.specs.Circuit.{IsAddress, IsMemory, IsNet, IsPlain, IsRegister, width_of};
 
-use ae_clocked::width_at;
-use ae_netlist::{Cell, NetId, Netlist};
+use ae_gates::width_at;
+use ae_netlist::{Cell, NetFault, NetId, Netlist};
+use ae_word::{Width, WordOp};
 
 fn is_plain(cell: Cell) -> bool
     ensures { IsTrue result → IsPlain cell }
@@ -95,4 +96,12 @@ pub fn address(nl: &Netlist, number: u32, depth: u32) -> Option<NetId>
         return None;
     }
     Some(net)
+}
+
+/// Adds the sum of two nets, and says so where the netlist is full.
+pub fn add_sum(nl: &mut Netlist, a: NetId, b: NetId, width: Width) -> Result<NetId, NetFault>
+    requires left { IsNet nl.old.cells a.0 width }
+    requires right { IsNet nl.old.cells b.0 width }
+{
+    nl.add(width, Cell::Op(WordOp::Add, [a, b, a]))
 }

@@ -1,20 +1,18 @@
 // What circuits show of their runs on blocks of words.
 
-ghost use Rattle.std.specs.Prelude.{◌≡◌, ◌*◌, ◌<◌, ◌≤◌, ◌^◌, ◌∷◌, [], ℕ, IfSome, IsTrue, All, length, map, get_or};
-ghost use Rattle.ae_sttype.specs.StTree.{st_tree, time};
-ghost use Rattle.ae_sttype.specs.Size.{IsInSize};
+ghost use Rattle.std.specs.Prelude.{◌≡◌, ◌*◌, ◌<◌, ◌≤◌, ◌^◌, ◌∷◌, [], ℕ, IfSome, IsTrue, length, map, get_or};
+ghost use Rattle.ae_sttype.specs.StTree.{st_tree};
 ghost use Rattle.ae_netlist.specs.declared.cell.SizedCell.{SizedCell};
 ghost use Rattle.ae_netlist.specs.Counts.{cells_of, is_input};
-ghost use Rattle.ae_netlist.specs.Rows.{AreInputs};
 ghost use Rattle.ae_seqtype.specs.SeqTree.{repeated};
 ghost use Rattle.ae_seqtype.specs.ValueTree.{FitKinds};
 ghost use Rattle.table_circuits.specs.Bytes.{byte_kind};
-ghost use Rattle.ae_play.specs.Fed.{blocks_of, fed_rows, size_of};
+ghost use Rattle.ae_play.specs.Fits.{TakesBlocks};
 ghost use Rattle.ae_play.specs.Lines.{clock_count};
 
 use crate::netlists::built;
 use ae_netlist::Netlist;
-use ae_play::{can_be_fed, sum_clocks, write_clocks};
+use ae_play::{Blocks, can_be_fed, sum_clocks, write_clocks};
 use ae_sttype::{Slowdown, StType};
 use ae_word::Atom;
 use std::alloc::{AllocError, Global};
@@ -64,38 +62,13 @@ fn byte_pairs(words: &[u64]) -> Option<usize>
 }
 
 // The lines of a run on blocks, and its sums; parameter and result have one layout.
-fn play(
-    alloc: Global,
-    out: &mut Page,
-    nl: &Netlist,
-    layout: &[StType],
-    slowdown: Slowdown,
-    latency: u32,
-    words: &[u64],
-    blocks: usize,
-    fill: u64,
-)
-    requires layout { All (λ s. IsInSize s × (time s ≡ slowdown)) (map st_tree layout.now) }
-    requires few { clock_count slowdown latency blocks < 2 ^ 32 }
-    requires whole { length words.now ≡ blocks * size_of (map st_tree layout.now) }
-    requires rows { (n : ℕ) → All (AreInputs nl.now.cells) (fed_rows slowdown fill (map st_tree layout.now) (blocks_of (map st_tree layout.now) blocks words.now) n) }
+fn play(alloc: Global, out: &mut Page, nl: &Netlist, fed: &Blocks<'_>, latency: u32)
+    requires takes { TakesBlocks nl.now.cells fed.now.slowdown fed.now.fill (map st_tree fed.now.ins.now) fed.now.count fed.now.words.now }
+    requires few { clock_count fed.now.slowdown latency fed.now.count < 2 ^ 32 }
 {
-    let done = write_clocks(
-        alloc,
-        out.text(),
-        nl,
-        layout,
-        layout,
-        slowdown,
-        latency,
-        words,
-        blocks,
-        fill,
-    );
+    let done = write_clocks(alloc, out.text(), nl, fed, fed.ins, latency);
     out.note(done);
-    match sum_clocks(
-        alloc, nl, layout, layout, slowdown, latency, words, blocks, fill,
-    ) {
+    match sum_clocks(alloc, nl, fed, fed.ins, latency) {
         Ok(sums) => {
             out.show("", &sums);
             out.say("\n");
@@ -124,14 +97,18 @@ fn play_slots(
     }
     let of = Box::new(alloc, StType::Atom(Atom::Word(8)))?;
     let layout = vec![in alloc; StType::T { n: 2, i: 1, of }]?;
-    let layout = layout.as_slice();
     let Some(slowdown) = Slowdown::of(3) else {
         return Ok(());
     };
     can_be_fed();
-    play(
-        alloc, out, nl, layout, slowdown, latency, words, blocks, fill,
-    );
+    let fed = Blocks {
+        ins: layout.as_slice(),
+        words,
+        count: blocks,
+        slowdown,
+        fill,
+    };
+    play(alloc, out, nl, &fed, latency);
     Ok(())
 }
 
@@ -155,12 +132,16 @@ fn play_lanes(
     }
     let of = Box::new(alloc, StType::Atom(Atom::Word(8)))?;
     let layout = vec![in alloc; StType::S { n: 2, of }]?;
-    let layout = layout.as_slice();
     let slowdown = Slowdown::one();
     can_be_fed();
-    play(
-        alloc, out, nl, layout, slowdown, latency, words, blocks, fill,
-    );
+    let fed = Blocks {
+        ins: layout.as_slice(),
+        words,
+        count: blocks,
+        slowdown,
+        fill,
+    };
+    play(alloc, out, nl, &fed, latency);
     Ok(())
 }
 

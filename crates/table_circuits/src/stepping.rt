@@ -2,7 +2,7 @@
 
 ghost use Rattle.std.specs.Prelude.{◌≡◌, ◌<◌, length};
 
-use ae_clocked::width_at;
+use ae_gates::width_at;
 use ae_netlist::Netlist;
 use ae_sim::Sim;
 use std::alloc::Global;

@@ -13,7 +13,7 @@ use Rattle.ae_netlist.specs.Circuit.{Extends, IsNet}
 use Rattle.ae_netlist.proofs.Gets.{get_push_cases}
 use Rattle.ae_netlist.proofs.Growing.{net_later}
 use Rattle.ae_clocked.specs.Phases.{Belongs, Kept}
-use Rattle.ae_clocked.proofs.Added.{own_net}
+use Rattle.ae_gates.proofs.Added.{own_net}
 use Rattle.ae_ops.specs.Waves.{AreNets, HaveOwnWidths}
 use Rattle.ae_ops.specs.Blocks.{AreBundles, Part, stream_of, stream_widths}
 use Rattle.ae_fold.specs.Folding.{fold_at, fold_by}

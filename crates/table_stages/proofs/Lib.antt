@@ -1,3 +1,5 @@
 pub mod Evenness
+pub mod Gaining
 pub mod Operands
+pub mod Sizes
 pub mod Taking

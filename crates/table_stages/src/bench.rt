@@ -1,11 +1,13 @@
 // A stage in a netlist of its own, and what it shows clock by clock.
 
-ghost use Rattle.std.specs.Prelude.{◌≡◌, ◌≤◌, ◌++◌, ◌∷◌, [], IfOk, OnOk, length};
-ghost use Rattle.ae_netlist.specs.Circuit.{Extends, IsNet};
+ghost use Rattle.std.specs.Prelude.{◌≡◌, ◌≤◌, ◌*◌, ◌+◌, ◌++◌, ◌∷◌, [], IfOk, OnOk, length};
+ghost use Rattle.ae_netlist.specs.Circuit.{IsNet};
+ghost use Rattle.ae_netlist.specs.Room.{HasRoom};
 ghost use Rattle.ae_clocked.specs.Phases.{Belongs};
 ghost use Rattle.ae_ops.specs.Blocks.{AreBundles};
 ghost use Rattle.ae_ops.specs.Waves.{HaveOwnWidths};
 ghost use Rattle.table_stages.specs.Even.{AreEven, TakesLanes};
+ghost use Rattle.table_stages.specs.Gains.{Gains};
 
 use ae_clocked::Clocks;
 use ae_netlist::{Cell, NetFault, NetId, Netlist, Port};
@@ -14,6 +16,9 @@ use ae_sim::Sim;
 use ae_word::Width;
 use std::alloc::{AllocError, Global};
 use table_text::{Page, fits, tell_outputs};
+
+/// The most cells of a netlist: the stages of all cases have fewer.
+pub const MOST_CELLS: u32 = 30_000_000;
 
 /// There was no room, for a cell or in memory.
 #[derive(Clone, Copy, Debug)]
@@ -81,10 +86,11 @@ impl Times {
 
 /// One more input.
 pub fn input(nl: &mut Netlist, width: Width) -> Result<NetId, NetFault>
-    ensures extends { Extends nl.old.cells nl.new.cells }
+    ensures gains { OnOk result (Gains nl.old nl.new 1) }
     ensures net { IfOk result (λ y. IsNet nl.new.cells y.0 width) }
 {
-    nl.add(width, Cell::Input(Port::Plain(0)))
+    let net = nl.add(width, Cell::Input(Port::Plain(0)))?;
+    Ok(net)
 }
 
 fn keep(nets: &mut Vec<NetId>, net: NetId) -> Result<(), NetFault>
@@ -98,7 +104,7 @@ fn keep(nets: &mut Vec<NetId>, net: NetId) -> Result<(), NetFault>
 
 // So many more inputs of one width.
 fn inputs(alloc: Global, nl: &mut Netlist, lanes: u32, width: Width) -> Result<Bundle, NetFault>
-    ensures extends { OnOk result (Extends nl.old.cells nl.new.cells) }
+    ensures gains { OnOk result (Gains nl.old nl.new lanes) }
     ensures nets { IfOk result (λ nets. AreEven nl.new.cells lanes width nets) }
 {
     let mut nets = Vec::new(alloc);
@@ -224,6 +230,7 @@ pub fn run<S: Stage>(
 ) -> Result<(), NoRoom>
     requires belongs { Belongs clocks.old nl.old.cells }
     requires bundles { AreBundles nl.old.cells (S.part stage.now).ins ins.now }
+    requires room { HasRoom nl.old (S.part stage.now).most_cells }
 {
     let latency = stage.latency();
     out.tell("latency ", &latency);
@@ -253,6 +260,7 @@ fn run_lanes<S: Stage>(
     times: Times,
 ) -> Result<(), NoRoom>
     requires takes { TakesLanes (S.part stage.now) lanes width }
+    requires room { HasRoom nl.old (1 + lanes + (S.part stage.now).most_cells) }
 {
     let rst = input(nl, Width::BIT)?;
     let ins = [inputs(alloc, nl, lanes, width)?];
@@ -271,8 +279,10 @@ pub fn over_lanes<S: Stage>(
     times: Times,
 ) -> Result<(), NoRoom>
     requires takes { TakesLanes (S.part stage.now) lanes width }
+    requires few { lanes ≤ 4096 }
+    requires small { (S.part stage.now).most_cells ≤ 20000000 }
 {
-    let mut nl = Netlist::new(alloc, 65536);
+    let mut nl = Netlist::new(alloc, MOST_CELLS);
     run_lanes(alloc, out, stage, &mut nl, lanes, width, words, times)
 }
 
@@ -288,6 +298,7 @@ fn show_late(
 ) -> Result<(), NoRoom>
     requires belongs { Belongs clocks.old nl.old.cells }
     requires nets { AreEven nl.old.cells lanes width bundle.now }
+    requires room { HasRoom nl.old (lanes * (8 * slack + 4)) }
 {
     let late = delay(alloc, nl, clocks, bundle, slack)?;
     show(nl, late.nets())?;
@@ -301,7 +312,9 @@ fn show_inputs(
     lanes: u32,
     width: Width,
     slack: u32,
-) -> Result<(), NoRoom> {
+) -> Result<(), NoRoom>
+    requires { HasRoom nl.old (1 + lanes + lanes * (8 * slack + 4)) }
+{
     let rst = input(nl, Width::BIT)?;
     let bundle = inputs(alloc, nl, lanes, width)?;
     let mut clocks = Clocks::new(alloc, rst);
@@ -318,7 +331,10 @@ pub fn delayed_words(
     words: &[u64],
 ) -> Result<(), NoRoom> {
     out.tell("delay ", &slack);
-    let mut nl = Netlist::new(alloc, 65536);
+    if lanes > 100 || slack > 1000 {
+        return Err(NoRoom);
+    }
+    let mut nl = Netlist::new(alloc, MOST_CELLS);
     show_inputs(alloc, &mut nl, lanes, width, slack)?;
     let times = Times {
         arrival: 0,

@@ -1,21 +1,25 @@
 // What is asked of stages.
 
-ghost use Rattle.std.specs.Prelude.{◌≡◌, ◌≤◌, IfOk, IfSome, OnOk};
+ghost use Rattle.std.specs.Prelude.{◌≡◌, ◌≤◌, IfOk, IfSome, OnOk, true};
 ghost use Rattle.ae_word.specs.AtomTree.{unsigned_word, word};
 ghost use Rattle.ae_word.specs.WordTable.{HasRange, arity_of};
 ghost use Rattle.ae_sttype.specs.StTree.{atom, sseq, st_tree, tseq};
-ghost use Rattle.ae_netlist.specs.Circuit.{Extends, IsNet};
+ghost use Rattle.ae_sttype.specs.Moves.{columns_of};
+ghost use Rattle.ae_netlist.specs.Circuit.{IsNet};
+ghost use Rattle.ae_netlist.specs.Room.{HasRoom};
 ghost use Rattle.ae_clocked.specs.Phases.{Belongs};
 ghost use Rattle.ae_gather.specs.Gathers.{gather_part, move_of};
 ghost use Rattle.table_stages.specs.Even.{TakesLanes};
+ghost use Rattle.table_stages.specs.Gains.{Gains};
 
-use crate::bench::{NoRoom, Times, delayed_words, input, over_lanes, run, tell_makers};
+use crate::bench::{MOST_CELLS, NoRoom, Times, delayed_words, input, over_lanes, run, tell_makers};
 use crate::words::{op_named, origins};
-use ae_clocked::{Clocks, choose, constant};
+use ae_clocked::Clocks;
 use ae_fold::{Fold, levels, word_folds};
+use ae_gates::{choose, constant};
 use ae_gather::{Gather, Origin};
 use ae_netlist::{NetFault, NetId, Netlist};
-use ae_ops::{Bundle, WordStage};
+use ae_ops::{Bundle, Stage, WordStage};
 use ae_reduce::Reduce;
 use ae_scan::Scan;
 use ae_sttype::StType;
@@ -89,6 +93,14 @@ fn blocks(arrival: u32, shown: u32) -> Times {
     }
 }
 
+// Whether a stage of the fold has few cells by its lanes and clocks.
+fn is_small(fold: FoldCase) -> bool
+    ensures lanes { result ≡ true → fold.lanes ≤ 4096 }
+    ensures clocks { result ≡ true → fold.clocks ≤ 4096 }
+{
+    fold.lanes <= 4096 && fold.clocks <= 4096
+}
+
 // The fold of a case, if it is one.
 fn fold_in(alloc: Global, fold: FoldCase) -> Result<Option<Fold>, AllocError>
     ensures { IfOk result (λ found. IfSome found (λ f. (f.lanes ≡ fold.lanes) × (st_tree f.element ≡ tseq fold.clocks 0 (atom (word (record { signed = fold.signed; width = fold.width })))))) }
@@ -100,8 +112,11 @@ fn fold_in(alloc: Global, fold: FoldCase) -> Result<Option<Fold>, AllocError>
 #[tactic(auto, using(crate::proofs::Taking::reduce_takes))]
 fn reduce(alloc: Global, out: &mut Page, fold: FoldCase, words: &[u64]) -> Result<(), NoRoom> {
     match fold_in(alloc, fold)? {
-        Some(of) if 1 <= fold.width && fold.width <= 64 => {
+        Some(of) if 1 <= fold.width && fold.width <= 64 && is_small(fold) => {
             let stage = Reduce::of(of);
+            if stage.latency() > 100_000 {
+                return Err(NoRoom);
+            }
             let times = blocks(0, fold.clocks);
             over_lanes(
                 alloc,
@@ -120,8 +135,11 @@ fn reduce(alloc: Global, out: &mut Page, fold: FoldCase, words: &[u64]) -> Resul
 #[tactic(auto, using(crate::proofs::Taking::scan_takes))]
 fn scan(alloc: Global, out: &mut Page, fold: FoldCase, words: &[u64]) -> Result<(), NoRoom> {
     match fold_in(alloc, fold)? {
-        Some(of) if 1 <= fold.width && fold.width <= 64 => {
+        Some(of) if 1 <= fold.width && fold.width <= 64 && is_small(fold) => {
             let stage = Scan::of(of);
+            if stage.latency() > 100 {
+                return Err(NoRoom);
+            }
             let times = blocks(0, fold.slots.saturating_mul(fold.clocks));
             over_lanes(
                 alloc,
@@ -199,7 +217,10 @@ fn moved(
     out: StType,
     source: Vec<Origin>,
 ) -> Result<Option<Gather>, AllocError>
-    ensures { IfOk result (λ found. IfSome found (λ stage. TakesLanes (gather_part (move_of stage)) lanes width)) }
+    requires few { lanes ≤ 16 }
+    requires out { columns_of (st_tree out) ≤ 16 }
+    ensures takes { IfOk result (λ found. IfSome found (λ stage. TakesLanes (gather_part (move_of stage)) lanes width)) }
+    ensures small { IfOk result (λ found. IfSome found (λ stage. (gather_part (move_of stage)).most_cells ≤ 20000000)) }
 {
     let layout = grid(alloc, clocks, 0, lanes, width)?;
     let mut ins = Vec::new(alloc);
@@ -225,13 +246,11 @@ fn gather(
     let width = number_at(head, 1);
     let lanes = number_at(head, 5);
     let clocks = number_at(head, 8);
-    let layout = grid(
-        alloc,
-        clocks,
-        number_at(head, 10),
-        number_at(head, 12),
-        width,
-    )?;
+    let lanes_out = number_at(head, 12);
+    if lanes > 16 || lanes_out > 16 {
+        return Err(NoRoom);
+    }
+    let layout = grid(alloc, clocks, number_at(head, 10), lanes_out, width)?;
     let source = origins(alloc, source)?;
     match moved(alloc, number_at(head, 3), lanes, width, layout, source)? {
         Some(stage) if 1 <= width && width <= 64 => {
@@ -253,7 +272,8 @@ fn gather(
 
 // A word or 0 by a bit, and the bit is 1 for 0.
 fn gated(nl: &mut Netlist, width: Width) -> Result<NetId, NetFault>
-    ensures extends { OnOk result (Extends nl.old.cells nl.new.cells) }
+    requires room { HasRoom nl.old 4 }
+    ensures gains { OnOk result (Gains nl.old nl.new 4) }
     ensures net { IfOk result (λ y. IsNet nl.new.cells y.0 width) }
 {
     let bit = input(nl, Width::BIT)?;
@@ -271,7 +291,8 @@ struct Pair {
 }
 
 fn operands(nl: &mut Netlist, form: Form, width: Width) -> Result<Pair, NetFault>
-    ensures extends { OnOk result (Extends nl.old.cells nl.new.cells) }
+    requires room { HasRoom nl.old 5 }
+    ensures gains { OnOk result (Gains nl.old nl.new 5) }
     ensures left { IfOk result (λ pair. IsNet nl.new.cells pair.left.0 width) }
     ensures right { IfOk result (λ pair. IsNet nl.new.cells pair.right.0 width) }
 {
@@ -326,6 +347,7 @@ fn of_operands(
     requires belongs { Belongs clocks.old nl.old.cells }
     requires left { IsNet nl.old.cells pair.left.0 width }
     requires right { IsNet nl.old.cells pair.right.0 width }
+    requires room { HasRoom nl.old 48 }
 {
     let stage = WordStage::new(op, width, 1);
     let left = Bundle::one(alloc, pair.left)?;
@@ -356,6 +378,7 @@ fn word_in(
 ) -> Result<(), NoRoom>
     requires range { HasRange op }
     requires few { arity_of op ≤ 2 }
+    requires room { HasRoom nl.old 54 }
 {
     let rst = input(nl, Width::BIT)?;
     let pair = operands(nl, form, width)?;
@@ -380,7 +403,7 @@ fn word(
     if arity(op) > 2 {
         return refused(out);
     }
-    let mut nl = Netlist::new(alloc, 65536);
+    let mut nl = Netlist::new(alloc, MOST_CELLS);
     word_in(alloc, out, &mut nl, op, form, width, words)?;
     if form != Form::Apart && arity(op) == 2 {
         tell_makers(out, &nl);

@@ -6,7 +6,7 @@ use Rattle.ae_vmodule.specs.Roots.{numbered, numbered_stmt}
 use Rattle.ae_vmodule.specs.View.{expr_tree, stmt_tree}
 use Rattle.ae_judge.specs.Names.{stmt_targets}
 use Rattle.ae_judge.specs.Weight.{stmt_weight}
-use Rattle.ae_gates.specs.Cells.{HasRoom}
+use Rattle.ae_netlist.specs.Room.{HasRoom}
 use Rattle.ae_assign.specs.Edges.{IsSoundStmt, IsReadyStmt, AreFresh, IsActed}
 use Rattle.ae_gates.proofs.Words.{grows_trans, net_grows}
 use Rattle.ae_order.proofs.Answered.{on_ok_map}
@@ -24,7 +24,7 @@ act-returns-in-Set t c =
     rw is
     (acted c.args.from c.args.names.now.nets c.args.nets.now c.args.guard c.assign.result c.args.nl.now c.assign.new.nl c.args.nexts.now.items
     c.assign.new.nexts.items _
-    c.assign.ensures.grows c.assign.ensures.more c.assign.ensures.few c.assign.ensures.nexts c.assign.ensures.others c.assign.ensures.acts)
+    c.assign.ensures.adds c.assign.ensures.nexts c.assign.ensures.others c.assign.ensures.acts)
 
 pub act-returns-in-Put : goal.act-returns-in-Put
 act-returns-in-Put t c =
@@ -33,7 +33,7 @@ act-returns-in-Put t c =
     rw is
     (acted c.args.from c.args.names.now.nets c.args.nets.now c.args.guard c.write.result c.args.nl.now c.write.new.nl c.args.nexts.now.items
     c.write.new.nexts.items _
-    c.write.ensures.grows c.write.ensures.more c.write.ensures.few c.write.ensures.nexts c.write.ensures.others c.write.ensures.acts)
+    c.write.ensures.adds c.write.ensures.nexts c.write.ensures.others c.write.ensures.acts)
 
 pub act-returns-in-End : goal.act-returns-in-End
 act-returns-in-End t c =
@@ -55,12 +55,12 @@ act-act-requires t c =
     let weight = ap (stmt_weight 0) e in
     let heavier = weight_more 0 s in
     let had = c.requires.room in
-    let few = c.in_ok-zero-in-When.ensures.few in
-    let few_more = c.in_ok-first-in-When.ensures.few in
-    let limit = c.in_ok-zero-in-When.ensures.grows.limit in
-    let limit_more = c.in_ok-first-in-When.ensures.grows.limit in
+    let few = c.in_ok-zero-in-When.ensures.adds.few in
+    let few_more = c.in_ok-first-in-When.ensures.adds.few in
+    let limit = c.in_ok-zero-in-When.ensures.adds.grows.grows.limit in
+    let limit_more = c.in_ok-first-in-When.ensures.adds.grows.grows.limit in
     let room : HasRoom c.unless.new.nl (8 * stmt_weight 0 s) = omega arith in
-    let g = grows_trans c.in_ok-zero-in-When.ensures.grows c.in_ok-first-in-When.ensures.grows in
+    let g = grows_trans c.in_ok-zero-in-When.ensures.adds.grows c.in_ok-first-in-When.ensures.adds.grows in
     search (
       rules,
       sound.1,
@@ -85,9 +85,7 @@ act-returns-in_ok-first-in-When t c =
     (when_acted c.args.from ns c.args.nets.now c.args.guard c.args.nl.now c.fails.new.nl c.unless.new.nl c.act.new.nl c.args.nexts.now.items
     c.act.new.nexts.items
     (expr_tree ws (numbered k.test)) (stmt_tree ws (numbered_stmt k.then)) c.in_ok-zero-in-When.zero c.in_ok-first-in-When.first
-    c.in_ok-zero-in-When.ensures.grows c.in_ok-zero-in-When.ensures.more
-    c.in_ok-zero-in-When.ensures.few c.in_ok-first-in-When.ensures.grows
-    c.in_ok-first-in-When.ensures.more c.in_ok-first-in-When.ensures.few
+    c.in_ok-zero-in-When.ensures.adds c.in_ok-first-in-When.ensures.adds
     c.in_ok-zero-in-When.ensures.word c.in_ok-first-in-When.ensures.word h))
     c.act.ensures
 
@@ -108,15 +106,15 @@ act-act-requires-in-Either t c =
     let heavier = weight_more 0 yes in
     let heavier_too = weight_more 0 no in
     let had = c.requires.room in
-    let few_zero = c.in_ok-zero-in-Either.ensures.few in
-    let few_first = c.in_ok-first-in-Either.ensures.few in
-    let few_second = c.in_ok-second-in-Either.ensures.few in
-    let limit_zero = c.in_ok-zero-in-Either.ensures.grows.limit in
-    let limit_first = c.in_ok-first-in-Either.ensures.grows.limit in
-    let limit_second = c.in_ok-second-in-Either.ensures.grows.limit in
+    let few_zero = c.in_ok-zero-in-Either.ensures.adds.few in
+    let few_first = c.in_ok-first-in-Either.ensures.adds.few in
+    let few_second = c.in_ok-second-in-Either.ensures.adds.few in
+    let limit_zero = c.in_ok-zero-in-Either.ensures.adds.grows.grows.limit in
+    let limit_first = c.in_ok-first-in-Either.ensures.adds.grows.grows.limit in
+    let limit_second = c.in_ok-second-in-Either.ensures.adds.grows.grows.limit in
     let room : HasRoom c.also.new.nl (8 * stmt_weight 0 yes) = omega arith in
-    let g = grows_trans c.in_ok-zero-in-Either.ensures.grows
-    (grows_trans c.in_ok-first-in-Either.ensures.grows c.in_ok-second-in-Either.ensures.grows) in
+    let g = grows_trans c.in_ok-zero-in-Either.ensures.adds.grows
+    (grows_trans c.in_ok-first-in-Either.ensures.adds.grows c.in_ok-second-in-Either.ensures.adds.grows) in
     search (
       rules,
       sound.1,
@@ -125,7 +123,7 @@ act-act-requires-in-Either t c =
       room,
       nets_grow g c.requires.nets,
       nexts_grow g c.requires.nexts,
-      net_grows c.in_ok-second-in-Either.ensures.grows c.in_ok-first-in-Either.ensures.net,
+      net_grows c.in_ok-second-in-Either.ensures.adds.grows c.in_ok-first-in-Either.ensures.net,
     )
 
 pub act-act-requires-in-Either-2 : goal.act-act-requires-in-Either-2
@@ -144,18 +142,18 @@ act-act-requires-in-Either-2 t c =
     let heavier = weight_more 0 yes in
     let heavier_too = weight_more 0 no in
     let had = c.requires.room in
-    let few_zero = c.in_ok-zero-in-Either.ensures.few in
-    let few_first = c.in_ok-first-in-Either.ensures.few in
-    let few_second = c.in_ok-second-in-Either.ensures.few in
-    let limit_zero = c.in_ok-zero-in-Either.ensures.grows.limit in
-    let limit_first = c.in_ok-first-in-Either.ensures.grows.limit in
-    let limit_second = c.in_ok-second-in-Either.ensures.grows.limit in
-    let few_act = c.in_ok-act-in-Either.ensures.few in
-    let limit_act = c.in_ok-act-in-Either.ensures.grows.limit in
+    let few_zero = c.in_ok-zero-in-Either.ensures.adds.few in
+    let few_first = c.in_ok-first-in-Either.ensures.adds.few in
+    let few_second = c.in_ok-second-in-Either.ensures.adds.few in
+    let limit_zero = c.in_ok-zero-in-Either.ensures.adds.grows.grows.limit in
+    let limit_first = c.in_ok-first-in-Either.ensures.adds.grows.grows.limit in
+    let limit_second = c.in_ok-second-in-Either.ensures.adds.grows.grows.limit in
+    let few_act = c.in_ok-act-in-Either.ensures.adds.few in
+    let limit_act = c.in_ok-act-in-Either.ensures.adds.grows.grows.limit in
     let room : HasRoom c.act-in-Either.new.nl (8 * stmt_weight 0 no) = omega arith in
-    let g = grows_trans c.in_ok-zero-in-Either.ensures.grows
-    (grows_trans c.in_ok-first-in-Either.ensures.grows
-    (grows_trans c.in_ok-second-in-Either.ensures.grows c.in_ok-act-in-Either.ensures.grows)) in
+    let g = grows_trans c.in_ok-zero-in-Either.ensures.adds.grows
+    (grows_trans c.in_ok-first-in-Either.ensures.adds.grows
+    (grows_trans c.in_ok-second-in-Either.ensures.adds.grows c.in_ok-act-in-Either.ensures.adds.grows)) in
     search (
       rules,
       sound.2,
@@ -165,7 +163,7 @@ act-act-requires-in-Either-2 t c =
       room,
       nets_grow g c.requires.nets,
       c.in_ok-act-in-Either.ensures.nexts,
-      net_grows c.in_ok-act-in-Either.ensures.grows c.in_ok-second-in-Either.ensures.net,
+      net_grows c.in_ok-act-in-Either.ensures.adds.grows c.in_ok-second-in-Either.ensures.net,
     )
 
 pub act-returns-in_ok-act-in-Either : goal.act-returns-in_ok-act-in-Either
@@ -183,11 +181,7 @@ act-returns-in_ok-act-in-Either t c =
     c.args.nexts.now.items c.act-in-Either.new.nexts.items c.act-in-Either-2.new.nexts.items
     (expr_tree ws (numbered k.test)) (stmt_tree ws (numbered_stmt k.then))
     (stmt_tree ws (numbered_stmt k.otherwise)) c.in_ok-zero-in-Either.zero c.in_ok-first-in-Either.first c.in_ok-second-in-Either.second
-    c.in_ok-zero-in-Either.ensures.grows c.in_ok-zero-in-Either.ensures.more
-    c.in_ok-zero-in-Either.ensures.few c.in_ok-first-in-Either.ensures.grows
-    c.in_ok-first-in-Either.ensures.more c.in_ok-first-in-Either.ensures.few
-    c.in_ok-second-in-Either.ensures.grows c.in_ok-second-in-Either.ensures.more
-    c.in_ok-second-in-Either.ensures.few
+    c.in_ok-zero-in-Either.ensures.adds c.in_ok-first-in-Either.ensures.adds c.in_ok-second-in-Either.ensures.adds
     c.in_ok-zero-in-Either.ensures.word c.in_ok-first-in-Either.ensures.word
     c.in_ok-second-in-Either.ensures.word c.in_ok-act-in-Either.ensures h))
     c.act-in-Either-2.ensures
@@ -221,7 +215,7 @@ act_all-next-init t c =
           c.act.new.nexts.items first rest
           (acting_first c.args.from ns c.args.nets.now c.args.guard c.args.nl.now c.args.nexts.now.items whole c.requires.sound c.requires.ready
           c.requires.nexts c.requires.fresh)
-          e.grows e.more e.few e.nexts e.others e.acts,
+          e.adds e.nexts e.others e.acts,
       omega arith,
     )
 
@@ -241,7 +235,7 @@ act_all-act-requires-in-Then t c =
     let ready = here.ready in
     let had = c.requires.room in
     let few = here.few in
-    let limit = here.grows.limit in
+    let limit = here.grows.grows.limit in
     let more = here.more in
     let room : HasRoom c.next.nl (8 * stmt_weight 0 s) = omega arith in
     search (
@@ -271,7 +265,7 @@ act_all-next-preserved t c =
     let fewer = c.next.invariant.1 in
     let e = c.in_ok-act-in-Then.ensures in (
       acting_step c.args.from ns c.args.nets.now c.args.guard c.args.nl.now c.args.nexts.now.items whole c.next.nl c.act-in-Then.new.nl
-          c.next.nexts.items c.act-in-Then.new.nexts.items s rest here e.grows e.more e.few e.nexts e.others e.acts,
+          c.next.nexts.items c.act-in-Then.new.nexts.items s rest here e.adds e.nexts e.others e.acts,
       omega arith,
     )
 

@@ -40,7 +40,7 @@ taken-requires-clause-right c =
     register_net c.args.names.now.nets c.args.nets.now c.args.nexts.now.items c.args.nl.now c.given_word.new.nl
     (word_at c.args.names.now.words c.args.name) c.name_width-width.result
     c.net_of-own.result c.so_far-before.result c.requires.sound.0 c.requires.sound.1 c.requires.nets
-    c.net_of-own.ensures c.requires.nexts c.name_width-width.ensures.width so_far c.in_ok-word.ensures.grows
+    c.net_of-own.ensures c.requires.nexts c.name_width-width.ensures.width so_far c.in_ok-word.ensures.adds.grows
 
 pub returns-clause-nexts : goal.returns-clause-nexts
 returns-clause-nexts c =
@@ -50,7 +50,7 @@ returns-clause-nexts c =
     rw c.place_of-place.ensures
     (nexts_set c.args.names.now.nets c.args.nexts.now.items (word_at c.args.names.now.words c.args.name) here c.args.nl.now c.taken.new.nl
     (Word c.in_ok-next.next)
-    (grows_trans c.in_ok-word.ensures.grows c.in_ok-next.ensures.grows) c.requires.nexts (kind_of_register here c.requires.sound.1, net))
+    (grows_trans c.in_ok-word.ensures.adds.grows c.in_ok-next.ensures.adds.grows) c.requires.nexts (kind_of_register here c.requires.sound.1, net))
 
 pub returns-clause-others : goal.returns-clause-others
 returns-clause-others c = λ n none.
@@ -73,7 +73,7 @@ returns-clause-acts c =
     (expr_tree c.args.names.now.words (numbered c.args.value)) c.in_ok-next.next c.name_width-width.result
     here c.requires.nexts.long (λ run t own. register_store _ run t own is_word)
     (λ at g named guards.
-    c.in_ok-next.ensures.word g _ _ (guard_grows c.args.from c.args.guard g c.in_ok-word.ensures.grows guards)
+    c.in_ok-next.ensures.word g _ _ (guard_grows c.args.from c.args.guard g c.in_ok-word.ensures.adds.grows guards)
     (same_word _ _ (λ run t. ap (λ w. value_at ns (read at run t) (max (own_width ns (expr_tree c.args.names.now.words (numbered c.args.value))) w)
     (expr_tree c.args.names.now.words (numbered c.args.value)) % 2 ^ w)
     c.name_width-width.ensures.width) (c.in_ok-word.ensures.word at named))
@@ -82,7 +82,7 @@ returns-clause-acts c =
           register_net ns c.args.nets.now c.args.nexts.now.items c.args.nl.now c.given_word.new.nl
           (word_at c.args.names.now.words c.args.name) c.name_width-width.result
           c.net_of-own.result c.so_far-before.result here c.requires.sound.1 c.requires.nets
-          c.net_of-own.ensures c.requires.nexts c.name_width-width.ensures.width so_far c.in_ok-word.ensures.grows;
+          c.net_of-own.ensures c.requires.nexts c.name_width-width.ensures.width so_far c.in_ok-word.ensures.adds.grows;
       words = λ all k run is t l. so_far_word _ c.net_of-own.result c.so_far-before.result run t (at (word_at c.args.names.now.words c.args.name)) so_far
           (named.each (word_at c.args.names.now.words c.args.name) c.net_of-own.result c.net_of-own.ensures);
     })))

@@ -22,8 +22,8 @@ index_mut-requires c =
 pub returns-clause-nexts : goal.returns-clause-nexts
 returns-clause-nexts c =
     let here = c.requires.sound.0.0 in
-    let later = grows_trans c.in_ok-word.ensures.grows c.in_ok-enable.ensures.grows in
-    let g = grows_trans c.in_ok-at.ensures.grows later in
+    let later = grows_trans c.in_ok-word.ensures.adds.grows c.in_ok-enable.ensures.adds.grows in
+    let g = grows_trans c.in_ok-at.ensures.adds.grows later in
     rw c.place_of-place.ensures
     (nexts_set c.args.names.now.nets c.args.nexts.now.items (word_at c.args.names.now.words c.args.name) here c.args.nl.now c.reached.new.nl
     (Write c.in_ok-at.at c.in_ok-word.word c.in_ok-enable.enable) g c.requires.nexts
@@ -32,7 +32,7 @@ returns-clause-nexts c =
     c.requires.sound.1 c.name_width-width.ensures.width
     (address_grows c.written_at.new.nl c.reached.new.nl c.in_ok-at.at.0
     (depth_of c.args.names.now.nets (word_at c.args.names.now.words c.args.name)) later c.in_ok-at.ensures.address)
-    (net_grows c.in_ok-enable.ensures.grows c.in_ok-word.ensures.net) c.in_ok-enable.ensures.net))
+    (net_grows c.in_ok-enable.ensures.adds.grows c.in_ok-word.ensures.net) c.in_ok-enable.ensures.net))
 
 pub returns-clause-others : goal.returns-clause-others
 returns-clause-others c = λ n none.
@@ -43,7 +43,7 @@ returns-clause-others c = λ n none.
 pub returns-clause-acts : goal.returns-clause-acts
 returns-clause-acts c =
     let ns = c.args.names.now.nets in
-    let later = grows_trans c.in_ok-word.ensures.grows c.in_ok-enable.ensures.grows in
+    let later = grows_trans c.in_ok-word.ensures.adds.grows c.in_ok-enable.ensures.adds.grows in
     rw c.place_of-place.ensures
     (write_acts c.args.from ns c.args.nets.now c.args.guard c.args.nl.now.cells c.reached.new.nl.cells c.args.nexts.now.items
     (word_at c.args.names.now.words c.args.name)
@@ -52,9 +52,9 @@ returns-clause-acts c =
     c.requires.sound.0.0 c.requires.nexts.long (c.requires.fresh.kept (word_at c.args.names.now.words c.args.name) (inl refl) c.requires.sound.1)
     (λ at named all k run is t l. c.in_ok-at.ensures.word at named all (back later k) run is t l)
     (λ at named.
-    word_grows c.in_ok-enable.ensures.grows
+    word_grows c.in_ok-enable.ensures.adds.grows
     (same_word _ _ (λ run t. ap (λ w. value_at ns (read at run t) (max (own_width ns (expr_tree c.args.names.now.words (numbered c.args.value))) w)
     (expr_tree c.args.names.now.words (numbered c.args.value)) % 2 ^ w)
     c.name_width-width.ensures.width) (c.in_ok-word.ensures.word at named)))
     (λ g guards. c.in_ok-enable.ensures.word g (guard_grows c.args.from c.args.guard g
-    (grows_trans c.in_ok-at.ensures.grows c.in_ok-word.ensures.grows) guards)))
+    (grows_trans c.in_ok-at.ensures.adds.grows c.in_ok-word.ensures.adds.grows) guards)))

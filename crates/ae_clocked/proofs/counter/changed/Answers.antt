@@ -1,19 +1,20 @@
 -- The nets of the bits that change, one after another, and what they hold.
 use Rattle.std.proofs.Common.{arith}
 use Rattle.ae_netlist.proofs.Carried.{carries_later}
-use Rattle.ae_clocked.proofs.Adding.{adds_most, adds_trans, net_added}
-use Rattle.ae_clocked.proofs.Added.{grows_length, back}
-use Rattle.ae_clocked.proofs.Turns.{ones_are, word_below}
+use Rattle.ae_gates.proofs.Adding.{adds_trans, net_added}
+use Rattle.ae_gates.proofs.Added.{grows_length, back}
+use Rattle.ae_clocked.proofs.Turns.{ones_are}
+use Rattle.ae_gates.proofs.Fits.{held_fits}
 use Rattle.ae_clocked.proofs.counter.changed.Goals as goal
 
-pub doubled-requires : goal.doubled-requires
-doubled-requires c = net_added c.in_ok-one.ensures.adds c.requires.net
+pub doubled-requires-clause-net : goal.doubled-requires-clause-net
+doubled-requires-clause-net c = net_added c.in_ok-one.ensures.adds c.requires.net
 
 pub either-requires-clause-right : goal.either-requires-clause-right
 either-requires-clause-right c = net_added c.in_ok-up.ensures.adds c.in_ok-one.ensures.net
 
-pub lowest-requires : goal.lowest-requires
-lowest-requires c = net_added (adds_trans (adds_trans c.in_ok-one.ensures.adds c.in_ok-up.ensures.adds) c.in_ok-odd.ensures.adds) c.requires.net
+pub lowest-requires-clause-net : goal.lowest-requires-clause-net
+lowest-requires-clause-net c = net_added (adds_trans (adds_trans c.in_ok-one.ensures.adds c.in_ok-up.ensures.adds) c.in_ok-odd.ensures.adds) c.requires.net
 
 pub choose-requires-clause-left : goal.choose-requires-clause-left
 choose-requires-clause-left c = net_added c.in_ok-low.ensures.adds c.in_ok-odd.ensures.net
@@ -21,26 +22,6 @@ choose-requires-clause-left c = net_added c.in_ok-low.ensures.adds c.in_ok-odd.e
 pub choose-requires-clause-right : goal.choose-requires-clause-right
 choose-requires-clause-right c =
     net_added (adds_trans (adds_trans c.in_ok-up.ensures.adds c.in_ok-odd.ensures.adds) c.in_ok-low.ensures.adds) c.in_ok-one.ensures.net
-
-pub returns-in_err-one-clause-adds : goal.returns-in_err-one-clause-adds
-returns-in_err-one-clause-adds c = adds_most 5 (omega arith) (c.in_err-one.ensures.adds)
-
-pub returns-in_err-up-clause-adds : goal.returns-in_err-up-clause-adds
-returns-in_err-up-clause-adds c = adds_most 5 (omega arith) (adds_trans c.in_ok-one.ensures.adds c.in_err-up.ensures.adds)
-
-pub returns-in_err-odd-clause-adds : goal.returns-in_err-odd-clause-adds
-returns-in_err-odd-clause-adds c =
-    adds_most 5 (omega arith) (adds_trans (adds_trans c.in_ok-one.ensures.adds c.in_ok-up.ensures.adds) c.in_err-odd.ensures.adds)
-
-pub returns-in_err-low-clause-adds : goal.returns-in_err-low-clause-adds
-returns-in_err-low-clause-adds c =
-    adds_most 5 (omega arith) (adds_trans (adds_trans (adds_trans c.in_ok-one.ensures.adds c.in_ok-up.ensures.adds) c.in_ok-odd.ensures.adds)
-    c.in_err-low.ensures.adds)
-
-pub returns-in_err-ones-clause-adds : goal.returns-in_err-ones-clause-adds
-returns-in_err-ones-clause-adds c =
-    adds_most 5 (omega arith) (adds_trans (adds_trans (adds_trans (adds_trans c.in_ok-one.ensures.adds c.in_ok-up.ensures.adds) c.in_ok-odd.ensures.adds)
-    c.in_ok-low.ensures.adds) c.in_err-ones.ensures.adds)
 
 pub returns-clause-adds : goal.returns-clause-adds
 returns-clause-adds c =
@@ -64,52 +45,12 @@ returns-clause-words c = λ all k5 run is t l.
     let net = k5.nets _ _ (net_added (adds_trans (adds_trans
     (adds_trans (adds_trans c.in_ok-one.ensures.adds c.in_ok-up.ensures.adds) c.in_ok-odd.ensures.adds) c.in_ok-low.ensures.adds)
     c.in_ok-ones.ensures.adds) c.requires.net) in
-    ones_are _ _ _ _ _ _ (word_below all run t _ _ is l net)
+    ones_are _ _ _ _ _ _ (held_fits all run t _ _ is l net)
     (c.in_ok-one.ensures.words all k1 run is t l)
     (c.in_ok-up.ensures.words all (carries_later _ _ l1 k2) run is t l)
     (c.in_ok-odd.ensures.words all (carries_later _ _ (omega arith) k3) run is t l)
     (c.in_ok-low.ensures.words all (carries_later _ _ (omega arith) k4) run is t l)
     (c.in_ok-ones.ensures.words all (carries_later _ _ (omega arith) k5) run is t l)
-
-pub returns-in_err-one-clause-registers : goal.returns-in_err-one-clause-registers
-returns-in_err-one-clause-registers c = omega (arith, c.in_err-one.ensures.registers)
-
-pub returns-in_err-one-clause-tests : goal.returns-in_err-one-clause-tests
-returns-in_err-one-clause-tests c = omega (arith, c.in_err-one.ensures.tests)
-
-pub returns-in_err-up-clause-registers : goal.returns-in_err-up-clause-registers
-returns-in_err-up-clause-registers c = omega (arith, c.in_ok-one.ensures.registers, c.in_err-up.ensures.registers)
-
-pub returns-in_err-up-clause-tests : goal.returns-in_err-up-clause-tests
-returns-in_err-up-clause-tests c = omega (arith, c.in_ok-one.ensures.tests, c.in_err-up.ensures.tests)
-
-pub returns-in_err-odd-clause-registers : goal.returns-in_err-odd-clause-registers
-returns-in_err-odd-clause-registers c = omega (arith, c.in_ok-one.ensures.registers, c.in_ok-up.ensures.registers, c.in_err-odd.ensures.registers)
-
-pub returns-in_err-odd-clause-tests : goal.returns-in_err-odd-clause-tests
-returns-in_err-odd-clause-tests c = omega (arith, c.in_ok-one.ensures.tests, c.in_ok-up.ensures.tests, c.in_err-odd.ensures.tests)
-
-pub returns-in_err-low-clause-registers : goal.returns-in_err-low-clause-registers
-returns-in_err-low-clause-registers c =
-    omega (arith, c.in_ok-one.ensures.registers, c.in_ok-up.ensures.registers, c.in_ok-odd.ensures.registers, c.in_err-low.ensures.registers)
-
-pub returns-in_err-low-clause-tests : goal.returns-in_err-low-clause-tests
-returns-in_err-low-clause-tests c = omega (arith, c.in_ok-one.ensures.tests, c.in_ok-up.ensures.tests, c.in_ok-odd.ensures.tests, c.in_err-low.ensures.tests)
-
-pub returns-in_err-ones-clause-registers : goal.returns-in_err-ones-clause-registers
-returns-in_err-ones-clause-registers c =
-    omega (
-      arith,
-      c.in_ok-one.ensures.registers,
-      c.in_ok-up.ensures.registers,
-      c.in_ok-odd.ensures.registers,
-      c.in_ok-low.ensures.registers,
-      c.in_err-ones.ensures.registers,
-    )
-
-pub returns-in_err-ones-clause-tests : goal.returns-in_err-ones-clause-tests
-returns-in_err-ones-clause-tests c =
-    omega (arith, c.in_ok-one.ensures.tests, c.in_ok-up.ensures.tests, c.in_ok-odd.ensures.tests, c.in_ok-low.ensures.tests, c.in_err-ones.ensures.tests)
 
 pub returns-clause-registers : goal.returns-clause-registers
 returns-clause-registers c =
@@ -134,3 +75,45 @@ choose-requires-clause-condition c = c.in_ok-low.ensures.net
 
 pub returns-clause-net : goal.returns-clause-net
 returns-clause-net c = c.in_ok-ones.ensures.net
+
+pub doubled-requires-clause-room : goal.doubled-requires-clause-room
+doubled-requires-clause-room c = omega (arith, c.requires.room, c.in_ok-one.ensures.adds.cells, c.in_ok-one.ensures.adds.grows.limit)
+
+pub either-requires-clause-room : goal.either-requires-clause-room
+either-requires-clause-room c =
+    omega (
+      arith,
+      c.requires.room,
+      c.in_ok-one.ensures.adds.cells,
+      c.in_ok-one.ensures.adds.grows.limit,
+      c.in_ok-up.ensures.adds.cells,
+      c.in_ok-up.ensures.adds.grows.limit,
+    )
+
+pub lowest-requires-clause-room : goal.lowest-requires-clause-room
+lowest-requires-clause-room c =
+    omega (
+      arith,
+      c.requires.room,
+      c.in_ok-one.ensures.adds.cells,
+      c.in_ok-one.ensures.adds.grows.limit,
+      c.in_ok-up.ensures.adds.cells,
+      c.in_ok-up.ensures.adds.grows.limit,
+      c.in_ok-odd.ensures.adds.cells,
+      c.in_ok-odd.ensures.adds.grows.limit,
+    )
+
+pub choose-requires-clause-room : goal.choose-requires-clause-room
+choose-requires-clause-room c =
+    omega (
+      arith,
+      c.requires.room,
+      c.in_ok-one.ensures.adds.cells,
+      c.in_ok-one.ensures.adds.grows.limit,
+      c.in_ok-up.ensures.adds.cells,
+      c.in_ok-up.ensures.adds.grows.limit,
+      c.in_ok-odd.ensures.adds.cells,
+      c.in_ok-odd.ensures.adds.grows.limit,
+      c.in_ok-low.ensures.adds.cells,
+      c.in_ok-low.ensures.adds.grows.limit,
+    )

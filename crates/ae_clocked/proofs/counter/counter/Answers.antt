@@ -2,8 +2,9 @@
 use Rattle.std.proofs.Common.{◌<◌, length, arith}
 use Rattle.ae_netlist.specs.Runs.{Carries}
 use Rattle.ae_netlist.proofs.Carried.{carries_later, carries_trans}
-use Rattle.ae_clocked.proofs.Adding.{adds_connect, adds_most, adds_trans, grows_trans, net_added}
-use Rattle.ae_clocked.proofs.Added.{grows_length, back, connect_carries, net_within, net_own, own_register, register_later}
+use Rattle.ae_gates.proofs.Adding.{adds_trans, grows_trans, net_added}
+use Rattle.ae_clocked.proofs.Connecting.{adds_connect, connect_carries, net_own, own_register, register_later}
+use Rattle.ae_gates.proofs.Added.{grows_length, back, net_within}
 use Rattle.ae_clocked.proofs.Turns.{count_is}
 use Rattle.ae_clocked.proofs.counter.counter.Goals as goal
 
@@ -23,21 +24,6 @@ pub close-requires-clause-next : goal.close-requires-clause-next
 close-requires-clause-next c =
     let later = grows_trans c.in_ok-after.ensures.adds.grows (grows_trans c.in_ok-begin.ensures.adds.grows c.in_ok-next.ensures.adds.grows) in
     net_own (register_later later c.in_ok-r.ensures.register) c.in_ok-next.ensures.net
-
-pub returns-in_err-r-clause-adds : goal.returns-in_err-r-clause-adds
-returns-in_err-r-clause-adds c = adds_most 12 (omega arith) (c.in_err-r.ensures.adds)
-
-pub returns-in_err-after-clause-adds : goal.returns-in_err-after-clause-adds
-returns-in_err-after-clause-adds c = adds_most 12 (omega arith) (adds_trans c.in_ok-r.ensures.adds c.in_err-after.ensures.adds)
-
-pub returns-in_err-begin-clause-adds : goal.returns-in_err-begin-clause-adds
-returns-in_err-begin-clause-adds c =
-    adds_most 12 (omega arith) (adds_trans (adds_trans c.in_ok-r.ensures.adds c.in_ok-after.ensures.adds) c.in_err-begin.ensures.adds)
-
-pub returns-in_err-next-clause-adds : goal.returns-in_err-next-clause-adds
-returns-in_err-next-clause-adds c =
-    adds_most 12 (omega arith) (adds_trans (adds_trans (adds_trans c.in_ok-r.ensures.adds c.in_ok-after.ensures.adds) c.in_ok-begin.ensures.adds)
-    c.in_err-next.ensures.adds)
 
 pub returns-clause-adds : goal.returns-clause-adds
 returns-clause-adds c =
@@ -69,32 +55,6 @@ returns-clause-words c = λ all k run is t l.
     (c.in_ok-next.ensures.words all (carries_later _ _ (omega arith) closed) run is t l0)
     (c.close.ensures.words all (carries_later _ _ (omega arith) k) run is t l)
 
-pub returns-in_err-r-clause-registers : goal.returns-in_err-r-clause-registers
-returns-in_err-r-clause-registers c = omega (arith, c.in_err-r.ensures.registers)
-
-pub returns-in_err-r-clause-tests : goal.returns-in_err-r-clause-tests
-returns-in_err-r-clause-tests c = omega (arith, c.in_err-r.ensures.tests)
-
-pub returns-in_err-after-clause-registers : goal.returns-in_err-after-clause-registers
-returns-in_err-after-clause-registers c = omega (arith, c.in_ok-r.ensures.registers, c.in_err-after.ensures.registers)
-
-pub returns-in_err-after-clause-tests : goal.returns-in_err-after-clause-tests
-returns-in_err-after-clause-tests c = omega (arith, c.in_ok-r.ensures.tests, c.in_err-after.ensures.tests)
-
-pub returns-in_err-begin-clause-registers : goal.returns-in_err-begin-clause-registers
-returns-in_err-begin-clause-registers c = omega (arith, c.in_ok-r.ensures.registers, c.in_ok-after.ensures.registers, c.in_err-begin.ensures.registers)
-
-pub returns-in_err-begin-clause-tests : goal.returns-in_err-begin-clause-tests
-returns-in_err-begin-clause-tests c = omega (arith, c.in_ok-r.ensures.tests, c.in_ok-after.ensures.tests, c.in_err-begin.ensures.tests)
-
-pub returns-in_err-next-clause-registers : goal.returns-in_err-next-clause-registers
-returns-in_err-next-clause-registers c =
-    omega (arith, c.in_ok-r.ensures.registers, c.in_ok-after.ensures.registers, c.in_ok-begin.ensures.registers, c.in_err-next.ensures.registers)
-
-pub returns-in_err-next-clause-tests : goal.returns-in_err-next-clause-tests
-returns-in_err-next-clause-tests c =
-    omega (arith, c.in_ok-r.ensures.tests, c.in_ok-after.ensures.tests, c.in_ok-begin.ensures.tests, c.in_err-next.ensures.tests)
-
 pub returns-clause-registers : goal.returns-clause-registers
 returns-clause-registers c =
     omega (
@@ -109,3 +69,30 @@ returns-clause-registers c =
 pub returns-clause-tests : goal.returns-clause-tests
 returns-clause-tests c =
     omega (arith, c.in_ok-r.ensures.tests, c.in_ok-after.ensures.tests, c.in_ok-begin.ensures.tests, c.in_ok-next.ensures.tests, c.close.ensures.tests)
+
+pub turned-requires-clause-room : goal.turned-requires-clause-room
+turned-requires-clause-room c = omega (arith, c.requires.room, c.in_ok-r.ensures.adds.cells, c.in_ok-r.ensures.adds.grows.limit)
+
+pub constant-requires-clause-room : goal.constant-requires-clause-room
+constant-requires-clause-room c =
+    omega (
+      arith,
+      c.requires.room,
+      c.in_ok-r.ensures.adds.cells,
+      c.in_ok-r.ensures.adds.grows.limit,
+      c.in_ok-after.ensures.adds.cells,
+      c.in_ok-after.ensures.adds.grows.limit,
+    )
+
+pub choose-requires-clause-room : goal.choose-requires-clause-room
+choose-requires-clause-room c =
+    omega (
+      arith,
+      c.requires.room,
+      c.in_ok-r.ensures.adds.cells,
+      c.in_ok-r.ensures.adds.grows.limit,
+      c.in_ok-after.ensures.adds.cells,
+      c.in_ok-after.ensures.adds.grows.limit,
+      c.in_ok-begin.ensures.adds.cells,
+      c.in_ok-begin.ensures.adds.grows.limit,
+    )

@@ -1,16 +1,16 @@
 -- The nets of a turn without an adder, one after another, and what they hold.
 use Rattle.std.proofs.Common.{arith}
 use Rattle.ae_netlist.proofs.Carried.{carries_later}
-use Rattle.ae_clocked.proofs.Adding.{adds_most, adds_trans, net_added}
-use Rattle.ae_clocked.proofs.Added.{grows_length, back}
+use Rattle.ae_gates.proofs.Adding.{adds_trans, net_added}
+use Rattle.ae_gates.proofs.Added.{grows_length, back}
 use Rattle.ae_clocked.proofs.Turns.{bits_turn}
 use Rattle.ae_clocked.proofs.counter.turned_by_bits.Goals as goal
 
 pub equal-requires-clause-left : goal.equal-requires-clause-left
 equal-requires-clause-left c = net_added c.in_ok-end.ensures.adds c.requires.net
 
-pub changed-requires : goal.changed-requires
-changed-requires c = record { net = net_added (adds_trans c.in_ok-end.ensures.adds c.in_ok-at_end.ensures.adds) c.requires.net }
+pub changed-requires-clause-net : goal.changed-requires-clause-net
+changed-requires-clause-net c = net_added (adds_trans c.in_ok-end.ensures.adds c.in_ok-at_end.ensures.adds) c.requires.net
 
 pub choose-requires-clause-condition : goal.choose-requires-clause-condition
 choose-requires-clause-condition c = net_added c.in_ok-ones.ensures.adds c.in_ok-at_end.ensures.net
@@ -23,26 +23,6 @@ pub differ-requires-clause-left : goal.differ-requires-clause-left
 differ-requires-clause-left c =
     net_added (adds_trans (adds_trans (adds_trans c.in_ok-end.ensures.adds c.in_ok-at_end.ensures.adds) c.in_ok-ones.ensures.adds) c.in_ok-flips.ensures.adds)
     c.requires.net
-
-pub returns-in_err-end-clause-adds : goal.returns-in_err-end-clause-adds
-returns-in_err-end-clause-adds c = adds_most 9 (omega arith) (c.in_err-end.ensures.adds)
-
-pub returns-in_err-at_end-clause-adds : goal.returns-in_err-at_end-clause-adds
-returns-in_err-at_end-clause-adds c = adds_most 9 (omega arith) (adds_trans c.in_ok-end.ensures.adds c.in_err-at_end.ensures.adds)
-
-pub returns-in_err-ones-clause-adds : goal.returns-in_err-ones-clause-adds
-returns-in_err-ones-clause-adds c =
-    adds_most 9 (omega arith) (adds_trans (adds_trans c.in_ok-end.ensures.adds c.in_ok-at_end.ensures.adds) c.in_err-ones.ensures.adds)
-
-pub returns-in_err-flips-clause-adds : goal.returns-in_err-flips-clause-adds
-returns-in_err-flips-clause-adds c =
-    adds_most 9 (omega arith) (adds_trans (adds_trans (adds_trans c.in_ok-end.ensures.adds c.in_ok-at_end.ensures.adds) c.in_ok-ones.ensures.adds)
-    c.in_err-flips.ensures.adds)
-
-pub returns-in_err-next-clause-adds : goal.returns-in_err-next-clause-adds
-returns-in_err-next-clause-adds c =
-    adds_most 9 (omega arith) (adds_trans (adds_trans (adds_trans (adds_trans c.in_ok-end.ensures.adds c.in_ok-at_end.ensures.adds) c.in_ok-ones.ensures.adds)
-    c.in_ok-flips.ensures.adds) c.in_err-next.ensures.adds)
 
 pub returns-clause-adds : goal.returns-clause-adds
 returns-clause-adds c =
@@ -70,47 +50,6 @@ returns-clause-words c = λ all k5 run is t l.
     (c.in_ok-flips.ensures.words all (carries_later _ _ (omega arith) k4) run is t l)
     (c.in_ok-next.ensures.words all (carries_later _ _ (omega arith) k5) run is t l)
 
-pub returns-in_err-end-clause-registers : goal.returns-in_err-end-clause-registers
-returns-in_err-end-clause-registers c = omega (arith, c.in_err-end.ensures.registers)
-
-pub returns-in_err-end-clause-tests : goal.returns-in_err-end-clause-tests
-returns-in_err-end-clause-tests c = omega (arith, c.in_err-end.ensures.tests)
-
-pub returns-in_err-at_end-clause-registers : goal.returns-in_err-at_end-clause-registers
-returns-in_err-at_end-clause-registers c = omega (arith, c.in_ok-end.ensures.registers, c.in_err-at_end.ensures.registers)
-
-pub returns-in_err-at_end-clause-tests : goal.returns-in_err-at_end-clause-tests
-returns-in_err-at_end-clause-tests c = omega (arith, c.in_ok-end.ensures.tests, c.in_err-at_end.ensures.tests)
-
-pub returns-in_err-ones-clause-registers : goal.returns-in_err-ones-clause-registers
-returns-in_err-ones-clause-registers c = omega (arith, c.in_ok-end.ensures.registers, c.in_ok-at_end.ensures.registers, c.in_err-ones.ensures.registers)
-
-pub returns-in_err-ones-clause-tests : goal.returns-in_err-ones-clause-tests
-returns-in_err-ones-clause-tests c = omega (arith, c.in_ok-end.ensures.tests, c.in_ok-at_end.ensures.tests, c.in_err-ones.ensures.tests)
-
-pub returns-in_err-flips-clause-registers : goal.returns-in_err-flips-clause-registers
-returns-in_err-flips-clause-registers c =
-    omega (arith, c.in_ok-end.ensures.registers, c.in_ok-at_end.ensures.registers, c.in_ok-ones.ensures.registers, c.in_err-flips.ensures.registers)
-
-pub returns-in_err-flips-clause-tests : goal.returns-in_err-flips-clause-tests
-returns-in_err-flips-clause-tests c =
-    omega (arith, c.in_ok-end.ensures.tests, c.in_ok-at_end.ensures.tests, c.in_ok-ones.ensures.tests, c.in_err-flips.ensures.tests)
-
-pub returns-in_err-next-clause-registers : goal.returns-in_err-next-clause-registers
-returns-in_err-next-clause-registers c =
-    omega (
-      arith,
-      c.in_ok-end.ensures.registers,
-      c.in_ok-at_end.ensures.registers,
-      c.in_ok-ones.ensures.registers,
-      c.in_ok-flips.ensures.registers,
-      c.in_err-next.ensures.registers,
-    )
-
-pub returns-in_err-next-clause-tests : goal.returns-in_err-next-clause-tests
-returns-in_err-next-clause-tests c =
-    omega (arith, c.in_ok-end.ensures.tests, c.in_ok-at_end.ensures.tests, c.in_ok-ones.ensures.tests, c.in_ok-flips.ensures.tests, c.in_err-next.ensures.tests)
-
 pub returns-clause-registers : goal.returns-clause-registers
 returns-clause-registers c =
     omega (
@@ -137,3 +76,45 @@ differ-requires-clause-right c = c.in_ok-flips.ensures.net
 
 pub returns-clause-net : goal.returns-clause-net
 returns-clause-net c = c.in_ok-next.ensures.net
+
+pub equal-requires-clause-room : goal.equal-requires-clause-room
+equal-requires-clause-room c = omega (arith, c.requires.room, c.in_ok-end.ensures.adds.cells, c.in_ok-end.ensures.adds.grows.limit)
+
+pub changed-requires-clause-room : goal.changed-requires-clause-room
+changed-requires-clause-room c =
+    omega (
+      arith,
+      c.requires.room,
+      c.in_ok-end.ensures.adds.cells,
+      c.in_ok-end.ensures.adds.grows.limit,
+      c.in_ok-at_end.ensures.adds.cells,
+      c.in_ok-at_end.ensures.adds.grows.limit,
+    )
+
+pub choose-requires-clause-room : goal.choose-requires-clause-room
+choose-requires-clause-room c =
+    omega (
+      arith,
+      c.requires.room,
+      c.in_ok-end.ensures.adds.cells,
+      c.in_ok-end.ensures.adds.grows.limit,
+      c.in_ok-at_end.ensures.adds.cells,
+      c.in_ok-at_end.ensures.adds.grows.limit,
+      c.in_ok-ones.ensures.adds.cells,
+      c.in_ok-ones.ensures.adds.grows.limit,
+    )
+
+pub differ-requires-clause-room : goal.differ-requires-clause-room
+differ-requires-clause-room c =
+    omega (
+      arith,
+      c.requires.room,
+      c.in_ok-end.ensures.adds.cells,
+      c.in_ok-end.ensures.adds.grows.limit,
+      c.in_ok-at_end.ensures.adds.cells,
+      c.in_ok-at_end.ensures.adds.grows.limit,
+      c.in_ok-ones.ensures.adds.cells,
+      c.in_ok-ones.ensures.adds.grows.limit,
+      c.in_ok-flips.ensures.adds.cells,
+      c.in_ok-flips.ensures.adds.grows.limit,
+    )

@@ -1,16 +1,16 @@
 -- The nets of a turn with an adder, one after another, and what they hold.
 use Rattle.std.proofs.Common.{arith}
 use Rattle.ae_netlist.proofs.Carried.{carries_later}
-use Rattle.ae_clocked.proofs.Adding.{adds_most, adds_trans, net_added}
-use Rattle.ae_clocked.proofs.Added.{grows_length, back}
+use Rattle.ae_gates.proofs.Adding.{adds_trans, net_added}
+use Rattle.ae_gates.proofs.Added.{grows_length, back}
 use Rattle.ae_clocked.proofs.Turns.{one_fits, turn_is}
 use Rattle.ae_clocked.proofs.counter.turned_by_sum.Goals as goal
 
 pub equal-requires-clause-left : goal.equal-requires-clause-left
 equal-requires-clause-left c = net_added c.in_ok-end.ensures.adds c.requires.net
 
-pub constant-requires-2 : goal.constant-requires-2
-constant-requires-2 c = one_fits _ c.limits.ensures.0
+pub constant-requires-2-clause-fits : goal.constant-requires-2-clause-fits
+constant-requires-2-clause-fits c = one_fits _ c.limits.ensures.0
 
 pub sum-requires-clause-left : goal.sum-requires-clause-left
 sum-requires-clause-left c = net_added (adds_trans (adds_trans c.in_ok-end.ensures.adds c.in_ok-at_end.ensures.adds) c.in_ok-one.ensures.adds) c.requires.net
@@ -21,32 +21,6 @@ choose-requires-clause-condition c =
 
 pub choose-requires-clause-right : goal.choose-requires-clause-right
 choose-requires-clause-right c = net_added c.in_ok-zero.ensures.adds c.in_ok-up.ensures.net
-
-pub returns-in_err-end-clause-adds : goal.returns-in_err-end-clause-adds
-returns-in_err-end-clause-adds c = adds_most 6 (omega arith) (c.in_err-end.ensures.adds)
-
-pub returns-in_err-at_end-clause-adds : goal.returns-in_err-at_end-clause-adds
-returns-in_err-at_end-clause-adds c = adds_most 6 (omega arith) (adds_trans c.in_ok-end.ensures.adds c.in_err-at_end.ensures.adds)
-
-pub returns-in_err-one-clause-adds : goal.returns-in_err-one-clause-adds
-returns-in_err-one-clause-adds c =
-    adds_most 6 (omega arith) (adds_trans (adds_trans c.in_ok-end.ensures.adds c.in_ok-at_end.ensures.adds) c.in_err-one.ensures.adds)
-
-pub returns-in_err-up-clause-adds : goal.returns-in_err-up-clause-adds
-returns-in_err-up-clause-adds c =
-    adds_most 6 (omega arith) (adds_trans (adds_trans (adds_trans c.in_ok-end.ensures.adds c.in_ok-at_end.ensures.adds) c.in_ok-one.ensures.adds)
-    c.in_err-up.ensures.adds)
-
-pub returns-in_err-zero-clause-adds : goal.returns-in_err-zero-clause-adds
-returns-in_err-zero-clause-adds c =
-    adds_most 6 (omega arith) (adds_trans (adds_trans (adds_trans (adds_trans c.in_ok-end.ensures.adds c.in_ok-at_end.ensures.adds) c.in_ok-one.ensures.adds)
-    c.in_ok-up.ensures.adds) c.in_err-zero.ensures.adds)
-
-pub returns-in_err-next-clause-adds : goal.returns-in_err-next-clause-adds
-returns-in_err-next-clause-adds c =
-    adds_most 6 (omega arith) (adds_trans (adds_trans (adds_trans
-    (adds_trans (adds_trans c.in_ok-end.ensures.adds c.in_ok-at_end.ensures.adds) c.in_ok-one.ensures.adds) c.in_ok-up.ensures.adds)
-    c.in_ok-zero.ensures.adds) c.in_err-next.ensures.adds)
 
 pub returns-clause-adds : goal.returns-clause-adds
 returns-clause-adds c =
@@ -77,70 +51,6 @@ returns-clause-words c = λ all k6 run is t l.
     (c.in_ok-up.ensures.words all (carries_later _ _ (omega arith) k4) run is t l)
     (c.in_ok-zero.ensures.words all (carries_later _ _ (omega arith) k5) run is t l)
     (c.in_ok-next.ensures.words all (carries_later _ _ (omega arith) k6) run is t l)
-
-pub returns-in_err-end-clause-registers : goal.returns-in_err-end-clause-registers
-returns-in_err-end-clause-registers c = omega (arith, c.in_err-end.ensures.registers)
-
-pub returns-in_err-end-clause-tests : goal.returns-in_err-end-clause-tests
-returns-in_err-end-clause-tests c = omega (arith, c.in_err-end.ensures.tests)
-
-pub returns-in_err-at_end-clause-registers : goal.returns-in_err-at_end-clause-registers
-returns-in_err-at_end-clause-registers c = omega (arith, c.in_ok-end.ensures.registers, c.in_err-at_end.ensures.registers)
-
-pub returns-in_err-at_end-clause-tests : goal.returns-in_err-at_end-clause-tests
-returns-in_err-at_end-clause-tests c = omega (arith, c.in_ok-end.ensures.tests, c.in_err-at_end.ensures.tests)
-
-pub returns-in_err-one-clause-registers : goal.returns-in_err-one-clause-registers
-returns-in_err-one-clause-registers c = omega (arith, c.in_ok-end.ensures.registers, c.in_ok-at_end.ensures.registers, c.in_err-one.ensures.registers)
-
-pub returns-in_err-one-clause-tests : goal.returns-in_err-one-clause-tests
-returns-in_err-one-clause-tests c = omega (arith, c.in_ok-end.ensures.tests, c.in_ok-at_end.ensures.tests, c.in_err-one.ensures.tests)
-
-pub returns-in_err-up-clause-registers : goal.returns-in_err-up-clause-registers
-returns-in_err-up-clause-registers c =
-    omega (arith, c.in_ok-end.ensures.registers, c.in_ok-at_end.ensures.registers, c.in_ok-one.ensures.registers, c.in_err-up.ensures.registers)
-
-pub returns-in_err-up-clause-tests : goal.returns-in_err-up-clause-tests
-returns-in_err-up-clause-tests c = omega (arith, c.in_ok-end.ensures.tests, c.in_ok-at_end.ensures.tests, c.in_ok-one.ensures.tests, c.in_err-up.ensures.tests)
-
-pub returns-in_err-zero-clause-registers : goal.returns-in_err-zero-clause-registers
-returns-in_err-zero-clause-registers c =
-    omega (
-      arith,
-      c.in_ok-end.ensures.registers,
-      c.in_ok-at_end.ensures.registers,
-      c.in_ok-one.ensures.registers,
-      c.in_ok-up.ensures.registers,
-      c.in_err-zero.ensures.registers,
-    )
-
-pub returns-in_err-zero-clause-tests : goal.returns-in_err-zero-clause-tests
-returns-in_err-zero-clause-tests c =
-    omega (arith, c.in_ok-end.ensures.tests, c.in_ok-at_end.ensures.tests, c.in_ok-one.ensures.tests, c.in_ok-up.ensures.tests, c.in_err-zero.ensures.tests)
-
-pub returns-in_err-next-clause-registers : goal.returns-in_err-next-clause-registers
-returns-in_err-next-clause-registers c =
-    omega (
-      arith,
-      c.in_ok-end.ensures.registers,
-      c.in_ok-at_end.ensures.registers,
-      c.in_ok-one.ensures.registers,
-      c.in_ok-up.ensures.registers,
-      c.in_ok-zero.ensures.registers,
-      c.in_err-next.ensures.registers,
-    )
-
-pub returns-in_err-next-clause-tests : goal.returns-in_err-next-clause-tests
-returns-in_err-next-clause-tests c =
-    omega (
-      arith,
-      c.in_ok-end.ensures.tests,
-      c.in_ok-at_end.ensures.tests,
-      c.in_ok-one.ensures.tests,
-      c.in_ok-up.ensures.tests,
-      c.in_ok-zero.ensures.tests,
-      c.in_err-next.ensures.tests,
-    )
 
 pub returns-clause-registers : goal.returns-clause-registers
 returns-clause-registers c =
@@ -177,3 +87,62 @@ choose-requires-clause-left c = c.in_ok-zero.ensures.net
 
 pub returns-clause-net : goal.returns-clause-net
 returns-clause-net c = c.in_ok-next.ensures.net
+
+pub equal-requires-clause-room : goal.equal-requires-clause-room
+equal-requires-clause-room c = omega (arith, c.requires.room, c.in_ok-end.ensures.adds.cells, c.in_ok-end.ensures.adds.grows.limit)
+
+pub constant-requires-2-clause-room : goal.constant-requires-2-clause-room
+constant-requires-2-clause-room c =
+    omega (
+      arith,
+      c.requires.room,
+      c.in_ok-end.ensures.adds.cells,
+      c.in_ok-end.ensures.adds.grows.limit,
+      c.in_ok-at_end.ensures.adds.cells,
+      c.in_ok-at_end.ensures.adds.grows.limit,
+    )
+
+pub sum-requires-clause-room : goal.sum-requires-clause-room
+sum-requires-clause-room c =
+    omega (
+      arith,
+      c.requires.room,
+      c.in_ok-end.ensures.adds.cells,
+      c.in_ok-end.ensures.adds.grows.limit,
+      c.in_ok-at_end.ensures.adds.cells,
+      c.in_ok-at_end.ensures.adds.grows.limit,
+      c.in_ok-one.ensures.adds.cells,
+      c.in_ok-one.ensures.adds.grows.limit,
+    )
+
+pub constant-requires-3-clause-room : goal.constant-requires-3-clause-room
+constant-requires-3-clause-room c =
+    omega (
+      arith,
+      c.requires.room,
+      c.in_ok-end.ensures.adds.cells,
+      c.in_ok-end.ensures.adds.grows.limit,
+      c.in_ok-at_end.ensures.adds.cells,
+      c.in_ok-at_end.ensures.adds.grows.limit,
+      c.in_ok-one.ensures.adds.cells,
+      c.in_ok-one.ensures.adds.grows.limit,
+      c.in_ok-up.ensures.adds.cells,
+      c.in_ok-up.ensures.adds.grows.limit,
+    )
+
+pub choose-requires-clause-room : goal.choose-requires-clause-room
+choose-requires-clause-room c =
+    omega (
+      arith,
+      c.requires.room,
+      c.in_ok-end.ensures.adds.cells,
+      c.in_ok-end.ensures.adds.grows.limit,
+      c.in_ok-at_end.ensures.adds.cells,
+      c.in_ok-at_end.ensures.adds.grows.limit,
+      c.in_ok-one.ensures.adds.cells,
+      c.in_ok-one.ensures.adds.grows.limit,
+      c.in_ok-up.ensures.adds.cells,
+      c.in_ok-up.ensures.adds.grows.limit,
+      c.in_ok-zero.ensures.adds.cells,
+      c.in_ok-zero.ensures.adds.grows.limit,
+    )

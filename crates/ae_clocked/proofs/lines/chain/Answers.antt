@@ -2,7 +2,7 @@
 use Rattle.std.proofs.Common.{◌≡◌, ◌+◌, ◌∙◌, ap, arith, ◌++◌, ◌∷◌, [], List, refl}
 use Rattle.std.proofs.lemmas.List.{length_push}
 use Rattle.ae_clocked.specs.Delays.{IsDelay}
-use Rattle.ae_clocked.proofs.Adding.{adds_trans, adds_most, adds_none}
+use Rattle.ae_gates.proofs.Adding.{adds_trans, adds_most, adds_none}
 use Rattle.ae_clocked.proofs.Late.{delay_more, delays_more, delay_none, delays_first}
 use Rattle.ae_netlist.specs.declared.cell.NetId.{NetId}
 use Rattle.ae_clocked.proofs.lines.chain.Goals as goal
@@ -23,42 +23,21 @@ loop-i-preserved c =
       tests = omega (arith, old.tests, more.tests);
     }
 
-pub returns-in_err-push-clause-adds : goal.returns-in_err-push-clause-adds
-returns-in_err-push-clause-adds c = adds_most c.args.count (omega arith) (adds_none _)
-
 pub loop-i-init : goal.loop-i-init
 loop-i-init c =
     let pushed : c.push.new.self.items ≡ c.args.x ∷ [] = c.in_ok-push.ensures.items ∙
     ap (λ (nets : List NetId). nets ++ c.args.x ∷ []) c.new-nets.ensures.items in
     record {
       adds = adds_none _;
-      delays = rw pushed (delays_first _ _ _ c.requires);
+      delays = rw pushed (delays_first _ _ _ c.requires.net);
       long = rw pushed refl;
-      last = delay_none _ _ _ c.requires;
+      last = delay_none _ _ _ c.requires.net;
       registers = omega arith;
       tests = omega arith;
     }
 
-pub delayed-requires : goal.delayed-requires
-delayed-requires c = c.loop-i.invariant.last.net
-
-pub returns-in_err-last-clause-adds : goal.returns-in_err-last-clause-adds
-returns-in_err-last-clause-adds c = adds_most c.args.count (omega arith) (adds_trans c.loop-i.invariant.adds c.in_err-last.ensures.adds)
-
-pub returns-in_err-last-clause-registers : goal.returns-in_err-last-clause-registers
-returns-in_err-last-clause-registers c = omega (arith, c.loop-i.invariant.registers, c.in_err-last.ensures.registers)
-
-pub returns-in_err-last-clause-tests : goal.returns-in_err-last-clause-tests
-returns-in_err-last-clause-tests c = omega (arith, c.loop-i.invariant.tests, c.in_err-last.ensures.tests)
-
-pub returns-in_err-push-2-clause-adds : goal.returns-in_err-push-2-clause-adds
-returns-in_err-push-2-clause-adds c = adds_most c.args.count (omega arith) (adds_trans c.loop-i.invariant.adds c.in_ok-last.ensures.adds)
-
-pub returns-in_err-push-2-clause-registers : goal.returns-in_err-push-2-clause-registers
-returns-in_err-push-2-clause-registers c = omega (arith, c.loop-i.invariant.registers, c.in_ok-last.ensures.registers)
-
-pub returns-in_err-push-2-clause-tests : goal.returns-in_err-push-2-clause-tests
-returns-in_err-push-2-clause-tests c = omega (arith, c.loop-i.invariant.tests, c.in_ok-last.ensures.tests)
+pub delayed-requires-clause-net : goal.delayed-requires-clause-net
+delayed-requires-clause-net c = c.loop-i.invariant.last.net
 
 pub returns-clause-adds : goal.returns-clause-adds
 returns-clause-adds c = adds_most c.args.count (omega arith) c.loop-i.invariant.adds
@@ -74,3 +53,6 @@ returns-clause-delays c = c.loop-i.invariant.delays
 
 pub returns-clause-long : goal.returns-clause-long
 returns-clause-long c = omega (arith, c.loop-i.invariant.long)
+
+pub delayed-requires-clause-room : goal.delayed-requires-clause-room
+delayed-requires-clause-room c = omega (arith, c.requires.room, c.loop-i.invariant.adds.cells, c.loop-i.invariant.adds.grows.limit)

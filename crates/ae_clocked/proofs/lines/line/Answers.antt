@@ -6,20 +6,8 @@ use Rattle.ae_clocked.proofs.Late.{late_taps, taps_more, below_greatest, taps_no
 use Rattle.std.proofs.lemmas.List.{take_all}
 use Rattle.ae_clocked.proofs.lines.line.Goals as goal
 
-pub returns-in_err-nets-clause-belongs : goal.returns-in_err-nets-clause-belongs
-returns-in_err-nets-clause-belongs c = belongs_grows _ _ _ c.in_err-nets.ensures.adds.grows c.requires.belongs
-
-pub returns-in_err-push-clause-belongs : goal.returns-in_err-push-clause-belongs
-returns-in_err-push-clause-belongs c = belongs_grows _ _ _ c.in_ok-nets.ensures.adds.grows c.requires.belongs
-
 pub returns-clause-belongs : goal.returns-clause-belongs
 returns-clause-belongs c = belongs_grows _ _ _ c.in_ok-nets.ensures.adds.grows c.requires.belongs
-
-pub returns-in_err-nets-clause-keeps : goal.returns-in_err-nets-clause-keeps
-returns-in_err-nets-clause-keeps c = keeps_same _
-
-pub returns-in_err-push-clause-keeps : goal.returns-in_err-push-clause-keeps
-returns-in_err-push-clause-keeps c = keeps_same _
 
 pub returns-clause-keeps : goal.returns-clause-keeps
 returns-clause-keeps c = keeps_same _
@@ -43,35 +31,11 @@ index-requires c =
     let long : length c.in_ok-nets.nets.items ≡ c.greatest.result + 1 = c.in_ok-nets.ensures.long in
     first_of (omega arith, grind arith)
 
-pub chain-requires : goal.chain-requires
-chain-requires c = rw c.width_at-width.ensures c.requires.net
+pub chain-requires-clause-net : goal.chain-requires-clause-net
+chain-requires-clause-net c = rw c.width_at-width.ensures c.requires.net
 
 pub loop-tap-init : goal.loop-tap-init
 loop-tap-init c = rw c.new-tapped.ensures.items (taps_none _ _ _ _)
-
-pub returns-in_err-nets-clause-grows : goal.returns-in_err-nets-clause-grows
-returns-in_err-nets-clause-grows c = c.in_err-nets.ensures.adds.grows
-
-pub returns-in_err-nets-clause-cells : goal.returns-in_err-nets-clause-cells
-returns-in_err-nets-clause-cells c = omega (arith, c.in_err-nets.ensures.adds.cells, c.greatest.ensures)
-
-pub returns-in_err-nets-clause-muls : goal.returns-in_err-nets-clause-muls
-returns-in_err-nets-clause-muls c = omega (arith, c.in_err-nets.ensures.adds.muls)
-
-pub returns-in_err-nets-clause-memories : goal.returns-in_err-nets-clause-memories
-returns-in_err-nets-clause-memories c = c.in_err-nets.ensures.adds.memories
-
-pub returns-in_err-push-clause-grows : goal.returns-in_err-push-clause-grows
-returns-in_err-push-clause-grows c = c.in_ok-nets.ensures.adds.grows
-
-pub returns-in_err-push-clause-cells : goal.returns-in_err-push-clause-cells
-returns-in_err-push-clause-cells c = omega (arith, c.in_ok-nets.ensures.adds.cells, c.greatest.ensures)
-
-pub returns-in_err-push-clause-muls : goal.returns-in_err-push-clause-muls
-returns-in_err-push-clause-muls c = omega (arith, c.in_ok-nets.ensures.adds.muls)
-
-pub returns-in_err-push-clause-memories : goal.returns-in_err-push-clause-memories
-returns-in_err-push-clause-memories c = c.in_ok-nets.ensures.adds.memories
 
 pub returns-clause-grows : goal.returns-clause-grows
 returns-clause-grows c = c.in_ok-nets.ensures.adds.grows

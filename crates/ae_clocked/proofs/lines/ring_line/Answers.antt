@@ -2,17 +2,14 @@
 use Rattle.std.proofs.Common.{ℕ, ◌≡◌, ◌+◌, ◌≤◌, ◌++◌, ◌∷◌, [], List, get_or, slice_get, Some, nat_lt, refl, arith}
 use Rattle.std.proofs.lemmas.Option.{slice_get-get_or}
 use Rattle.ae_clocked.specs.Delays.{AreDelays, IsTap}
-use Rattle.ae_clocked.proofs.Adding.{adds_most, adds_none, adds_trans, grows_trans, net_added}
-use Rattle.ae_clocked.proofs.Belonging.{belongs_grows, keeps_same}
+use Rattle.ae_gates.proofs.Adding.{adds_most, adds_none, adds_trans, grows_trans, net_added}
+use Rattle.ae_clocked.proofs.Belonging.{belongs_grows}
 use Rattle.ae_clocked.proofs.Late.{below_greatest, taps_more, taps_none}
 use Rattle.ae_clocked.specs.Rows.{AreLinks}
 use Rattle.ae_clocked.proofs.InRow.{links_grow}
 use Rattle.ae_clocked.proofs.Lining.{count_more, count_part, delays_grow, far_within, room, spare_taken, taps_grow}
 use Rattle.std.proofs.lemmas.List.{take_all}
 use Rattle.ae_clocked.proofs.lines.ring_line.Goals as goal
-
-pub returns-in_err-nets-clause-belongs : goal.returns-in_err-nets-clause-belongs
-returns-in_err-nets-clause-belongs c = belongs_grows _ _ _ c.in_err-nets.ensures.adds.grows c.requires.belongs
 
 pub far_row-requires-clause-belongs : goal.far_row-requires-clause-belongs
 far_row-requires-clause-belongs c = belongs_grows _ _ _ c.in_ok-nets.ensures.adds.grows c.requires.belongs
@@ -40,44 +37,6 @@ tap_at-requires-clause-links c = λ far.
     (below_greatest c.args.taps.now c.loop-tap.tap-index c.loop-tap-test.true) in
     (c.args.clocks.now.rst, c.args.x.0, c.greatest-most.result, rw c.deref-in-loop-tap.ensures.value c.loop-tap.invariant.links, small)
 
-pub returns-in_err-net-clause-belongs : goal.returns-in_err-net-clause-belongs
-returns-in_err-net-clause-belongs c = belongs_grows _ _ _ c.in_err-net.ensures.adds.grows c.loop-tap.invariant.belongs
-
-pub returns-in_err-push-clause-belongs : goal.returns-in_err-push-clause-belongs
-returns-in_err-push-clause-belongs c = belongs_grows _ _ _ c.in_ok-net.ensures.adds.grows c.loop-tap.invariant.belongs
-
-pub returns-in_err-net-clause-cells : goal.returns-in_err-net-clause-cells
-returns-in_err-net-clause-cells c =
-    let count = count_more c.args.taps.now c.loop-tap.tap-index _ c.loop-tap-test.true refl in
-    let part = count_part (λ (t : ℕ). nat_lt 0 t) (c.loop-tap.tap-index + 1) c.args.taps.now in
-    let fits = room c.nearest-near.result c.greatest-most.result c.nearest-near.ensures.below (rw c.greatest-most.ensures c.nearest-near.ensures.least) in
-    rw (← c.greatest-most.ensures) (omega (
-      arith,
-      c.in_ok-nets.ensures.adds.cells,
-      c.in_ok-links.ensures.adds.cells,
-      c.loop-tap.invariant.adds.cells,
-      c.in_err-net.ensures.adds.cells,
-      count,
-      part,
-      fits,
-    ))
-
-pub returns-in_err-push-clause-cells : goal.returns-in_err-push-clause-cells
-returns-in_err-push-clause-cells c =
-    let count = count_more c.args.taps.now c.loop-tap.tap-index _ c.loop-tap-test.true refl in
-    let part = count_part (λ (t : ℕ). nat_lt 0 t) (c.loop-tap.tap-index + 1) c.args.taps.now in
-    let fits = room c.nearest-near.result c.greatest-most.result c.nearest-near.ensures.below (rw c.greatest-most.ensures c.nearest-near.ensures.least) in
-    rw (← c.greatest-most.ensures) (omega (
-      arith,
-      c.in_ok-nets.ensures.adds.cells,
-      c.in_ok-links.ensures.adds.cells,
-      c.loop-tap.invariant.adds.cells,
-      c.in_ok-net.ensures.adds.cells,
-      count,
-      part,
-      fits,
-    ))
-
 pub loop-tap-preserved : goal.loop-tap-preserved
 loop-tap-preserved c =
     let was = c.loop-tap.invariant in
@@ -102,8 +61,8 @@ loop-tap-preserved c =
       taps = rw pushed (taps_more _ _ _ _ _ taps _ tap _ (taps_grow more.adds.grows.extends was.taps) there new);
     }
 
-pub chain-requires : goal.chain-requires
-chain-requires c = rw c.width_at-width.ensures c.requires.net
+pub chain-requires-clause-net : goal.chain-requires-clause-net
+chain-requires-clause-net c = rw c.width_at-width.ensures c.requires.net
 
 pub far_row-requires-clause-net : goal.far_row-requires-clause-net
 far_row-requires-clause-net c = net_added c.in_ok-nets.ensures.adds (rw c.width_at-width.ensures c.requires.net)
@@ -115,91 +74,6 @@ tap_at-requires-clause-near c = λ small.
 
 pub tap_at-requires-clause-delays : goal.tap_at-requires-clause-delays
 tap_at-requires-clause-delays c = (c.args.x.0, rw c.deref.ensures.value c.loop-tap.invariant.delays)
-
-pub returns-in_err-nets-clause-grows : goal.returns-in_err-nets-clause-grows
-returns-in_err-nets-clause-grows c = c.in_err-nets.ensures.adds.grows
-
-pub returns-in_err-nets-clause-cells : goal.returns-in_err-nets-clause-cells
-returns-in_err-nets-clause-cells c = omega (arith, c.in_err-nets.ensures.adds.cells, c.nearest-near.ensures.least)
-
-pub returns-in_err-nets-clause-muls : goal.returns-in_err-nets-clause-muls
-returns-in_err-nets-clause-muls c = omega (arith, c.in_err-nets.ensures.adds.muls)
-
-pub returns-in_err-nets-clause-memories : goal.returns-in_err-nets-clause-memories
-returns-in_err-nets-clause-memories c = omega (arith, c.in_err-nets.ensures.adds.memories)
-
-pub returns-in_err-nets-clause-keeps : goal.returns-in_err-nets-clause-keeps
-returns-in_err-nets-clause-keeps c = keeps_same _
-
-pub returns-in_err-links-clause-belongs : goal.returns-in_err-links-clause-belongs
-returns-in_err-links-clause-belongs c = c.in_err-links.ensures.belongs
-
-pub returns-in_err-links-clause-grows : goal.returns-in_err-links-clause-grows
-returns-in_err-links-clause-grows c = grows_trans c.in_ok-nets.ensures.adds.grows c.in_err-links.ensures.adds.grows
-
-pub returns-in_err-links-clause-cells : goal.returns-in_err-links-clause-cells
-returns-in_err-links-clause-cells c =
-    rw (← c.greatest-most.ensures) (omega (
-      arith,
-      c.in_ok-nets.ensures.adds.cells,
-      c.in_err-links.ensures.adds.cells,
-      room c.nearest-near.result
-          c.greatest-most.result c.nearest-near.ensures.below (rw c.greatest-most.ensures c.nearest-near.ensures.least),
-    ))
-
-pub returns-in_err-links-clause-muls : goal.returns-in_err-links-clause-muls
-returns-in_err-links-clause-muls c = omega (arith, c.in_ok-nets.ensures.adds.muls, c.in_err-links.ensures.adds.muls)
-
-pub returns-in_err-links-clause-memories : goal.returns-in_err-links-clause-memories
-returns-in_err-links-clause-memories c =
-    rw (← c.greatest-most.ensures) (omega (arith, c.in_ok-nets.ensures.adds.memories, c.in_err-links.ensures.adds.memories))
-
-pub returns-in_err-links-clause-keeps : goal.returns-in_err-links-clause-keeps
-returns-in_err-links-clause-keeps c = c.in_err-links.ensures.keeps
-
-pub returns-in_err-net-clause-grows : goal.returns-in_err-net-clause-grows
-returns-in_err-net-clause-grows c =
-    grows_trans (grows_trans c.in_ok-nets.ensures.adds.grows c.in_ok-links.ensures.adds.grows)
-    (grows_trans c.loop-tap.invariant.adds.grows c.in_err-net.ensures.adds.grows)
-
-pub returns-in_err-net-clause-muls : goal.returns-in_err-net-clause-muls
-returns-in_err-net-clause-muls c =
-    omega (arith, c.in_ok-nets.ensures.adds.muls, c.in_ok-links.ensures.adds.muls, c.loop-tap.invariant.adds.muls, c.in_err-net.ensures.adds.muls)
-
-pub returns-in_err-net-clause-memories : goal.returns-in_err-net-clause-memories
-returns-in_err-net-clause-memories c =
-    rw (← c.greatest-most.ensures) (omega (
-      arith,
-      c.in_ok-nets.ensures.adds.memories,
-      c.in_ok-links.ensures.adds.memories,
-      c.loop-tap.invariant.adds.memories,
-      c.in_err-net.ensures.adds.memories,
-    ))
-
-pub returns-in_err-net-clause-keeps : goal.returns-in_err-net-clause-keeps
-returns-in_err-net-clause-keeps c = c.in_ok-links.ensures.keeps
-
-pub returns-in_err-push-clause-grows : goal.returns-in_err-push-clause-grows
-returns-in_err-push-clause-grows c =
-    grows_trans (grows_trans c.in_ok-nets.ensures.adds.grows c.in_ok-links.ensures.adds.grows)
-    (grows_trans c.loop-tap.invariant.adds.grows c.in_ok-net.ensures.adds.grows)
-
-pub returns-in_err-push-clause-muls : goal.returns-in_err-push-clause-muls
-returns-in_err-push-clause-muls c =
-    omega (arith, c.in_ok-nets.ensures.adds.muls, c.in_ok-links.ensures.adds.muls, c.loop-tap.invariant.adds.muls, c.in_ok-net.ensures.adds.muls)
-
-pub returns-in_err-push-clause-memories : goal.returns-in_err-push-clause-memories
-returns-in_err-push-clause-memories c =
-    rw (← c.greatest-most.ensures) (omega (
-      arith,
-      c.in_ok-nets.ensures.adds.memories,
-      c.in_ok-links.ensures.adds.memories,
-      c.loop-tap.invariant.adds.memories,
-      c.in_ok-net.ensures.adds.memories,
-    ))
-
-pub returns-in_err-push-clause-keeps : goal.returns-in_err-push-clause-keeps
-returns-in_err-push-clause-keeps c = c.in_ok-links.ensures.keeps
 
 pub returns-clause-belongs : goal.returns-clause-belongs
 returns-clause-belongs c = c.loop-tap.invariant.belongs
@@ -246,3 +120,33 @@ pub returns-clause-taps : goal.returns-clause-taps
 returns-clause-taps c =
     let whole = take_all c.loop-tap.tap-index c.args.taps.now c.loop-tap-test.false in
     rw (← c.width_at-width.ensures) (rw whole at c.loop-tap.invariant.taps)
+
+pub chain-requires-clause-room : goal.chain-requires-clause-room
+chain-requires-clause-room c =
+    let fits = room c.nearest-near.result c.greatest-most.result c.nearest-near.ensures.below (rw c.greatest-most.ensures c.nearest-near.ensures.least) in
+    omega (arith, c.requires.room, fits, c.greatest-most.ensures)
+
+pub far_row-requires-clause-room : goal.far_row-requires-clause-room
+far_row-requires-clause-room c =
+    let fits = room c.nearest-near.result c.greatest-most.result c.nearest-near.ensures.below (rw c.greatest-most.ensures c.nearest-near.ensures.least) in
+    omega (arith, c.requires.room, fits, c.greatest-most.ensures, c.in_ok-nets.ensures.adds.cells, c.in_ok-nets.ensures.adds.grows.limit)
+
+pub tap_at-requires-clause-room : goal.tap_at-requires-clause-room
+tap_at-requires-clause-room c =
+    let count = count_more c.args.taps.now c.loop-tap.tap-index _ c.loop-tap-test.true refl in
+    let part = count_part (λ (t : ℕ). nat_lt 0 t) (c.loop-tap.tap-index + 1) c.args.taps.now in
+    let fits = room c.nearest-near.result c.greatest-most.result c.nearest-near.ensures.below (rw c.greatest-most.ensures c.nearest-near.ensures.least) in
+    omega (
+      arith,
+      c.requires.room,
+      c.greatest-most.ensures,
+      c.in_ok-nets.ensures.adds.cells,
+      c.in_ok-nets.ensures.adds.grows.limit,
+      c.in_ok-links.ensures.adds.cells,
+      c.in_ok-links.ensures.adds.grows.limit,
+      c.loop-tap.invariant.adds.cells,
+      c.loop-tap.invariant.adds.grows.limit,
+      count,
+      part,
+      fits,
+    )

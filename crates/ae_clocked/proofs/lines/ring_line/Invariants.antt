@@ -1,6 +1,6 @@
 use Rattle.std.proofs.Common.{ℕ, ◌+◌, ◌*◌, ◌≤◌, take, count_by, nat_lt}
 use Rattle.ae_netlist.specs.Counts.{count_of, is_register}
-use Rattle.ae_clocked.specs.Signals.{Adds, is_test}
+use Rattle.ae_gates.specs.Cells.{Adds, is_test}
 use Rattle.ae_clocked.specs.Phases.{Belongs}
 use Rattle.ae_clocked.specs.Delays.{AreDelays, AreTaps}
 use Rattle.ae_clocked.specs.Rows.{AreLinks}

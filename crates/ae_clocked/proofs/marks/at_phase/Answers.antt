@@ -1,7 +1,7 @@
 -- The word of another counter is one of its own.
 use Rattle.std.proofs.Common.{◌≡◌, ◌∙◌, ◌+◌, ◌-◌, ◌%◌, ◌<◌, ◌≤◌, ◌^◌, arith}
 use Rattle.ae_netlist.proofs.Growing.{net_width}
-use Rattle.ae_clocked.proofs.Added.{own_net}
+use Rattle.ae_gates.proofs.Added.{own_net}
 use Rattle.ae_clocked.proofs.marks.at_phase.Goals as goal
 
 pub width_at-width-requires : goal.width_at-width-requires

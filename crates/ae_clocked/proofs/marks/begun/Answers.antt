@@ -1,9 +1,9 @@
 -- The nets of a register that begins anew, one after another, and what they hold.
 use Rattle.std.proofs.Common.{arith, refl}
 use Rattle.ae_netlist.proofs.Carried.{carries_later}
-use Rattle.ae_clocked.proofs.Added.{grows_length, back}
+use Rattle.ae_gates.proofs.Added.{grows_length, back}
 use Rattle.ae_clocked.proofs.Marked.{bit_is}
-use Rattle.ae_clocked.proofs.Adding.{adds_most, adds_trans, net_added}
+use Rattle.ae_gates.proofs.Adding.{adds_trans, net_added}
 use Rattle.ae_clocked.proofs.marks.begun.Goals as goal
 
 pub returns-clause-words : goal.returns-clause-words
@@ -27,38 +27,11 @@ choose-requires-clause-left c = c.in_ok-begin.ensures.net
 pub choose-requires-clause-right : goal.choose-requires-clause-right
 choose-requires-clause-right c = net_added c.in_ok-begin.ensures.adds c.requires.net
 
-pub delayed-requires : goal.delayed-requires
-delayed-requires c = c.in_ok-next.ensures.net
+pub delayed-requires-clause-net : goal.delayed-requires-clause-net
+delayed-requires-clause-net c = c.in_ok-next.ensures.net
 
 pub returns-clause-net : goal.returns-clause-net
 returns-clause-net c = c.in_ok-y.ensures.net
-
-pub returns-in_err-begin-clause-adds : goal.returns-in_err-begin-clause-adds
-returns-in_err-begin-clause-adds c = adds_most 3 (omega arith) c.in_err-begin.ensures.adds
-
-pub returns-in_err-begin-clause-registers : goal.returns-in_err-begin-clause-registers
-returns-in_err-begin-clause-registers c = omega (arith, c.in_err-begin.ensures.registers)
-
-pub returns-in_err-begin-clause-tests : goal.returns-in_err-begin-clause-tests
-returns-in_err-begin-clause-tests c = omega (arith, c.in_err-begin.ensures.tests)
-
-pub returns-in_err-next-clause-adds : goal.returns-in_err-next-clause-adds
-returns-in_err-next-clause-adds c = adds_most 3 (omega arith) (adds_trans c.in_ok-begin.ensures.adds c.in_err-next.ensures.adds)
-
-pub returns-in_err-next-clause-registers : goal.returns-in_err-next-clause-registers
-returns-in_err-next-clause-registers c = omega (arith, c.in_ok-begin.ensures.registers, c.in_err-next.ensures.registers)
-
-pub returns-in_err-next-clause-tests : goal.returns-in_err-next-clause-tests
-returns-in_err-next-clause-tests c = omega (arith, c.in_ok-begin.ensures.tests, c.in_err-next.ensures.tests)
-
-pub returns-in_err-y-clause-adds : goal.returns-in_err-y-clause-adds
-returns-in_err-y-clause-adds c = adds_trans (adds_trans c.in_ok-begin.ensures.adds c.in_ok-next.ensures.adds) c.in_err-y.ensures.adds
-
-pub returns-in_err-y-clause-registers : goal.returns-in_err-y-clause-registers
-returns-in_err-y-clause-registers c = omega (arith, c.in_ok-begin.ensures.registers, c.in_ok-next.ensures.registers, c.in_err-y.ensures.registers)
-
-pub returns-in_err-y-clause-tests : goal.returns-in_err-y-clause-tests
-returns-in_err-y-clause-tests c = omega (arith, c.in_ok-begin.ensures.tests, c.in_ok-next.ensures.tests, c.in_err-y.ensures.tests)
 
 pub returns-clause-adds : goal.returns-clause-adds
 returns-clause-adds c = adds_trans (adds_trans c.in_ok-begin.ensures.adds c.in_ok-next.ensures.adds) c.in_ok-y.ensures.adds
@@ -68,3 +41,17 @@ returns-clause-registers c = omega (arith, c.in_ok-begin.ensures.registers, c.in
 
 pub returns-clause-tests : goal.returns-clause-tests
 returns-clause-tests c = omega (arith, c.in_ok-begin.ensures.tests, c.in_ok-next.ensures.tests, c.in_ok-y.ensures.tests)
+
+pub choose-requires-clause-room : goal.choose-requires-clause-room
+choose-requires-clause-room c = omega (arith, c.requires.room, c.in_ok-begin.ensures.adds.cells, c.in_ok-begin.ensures.adds.grows.limit)
+
+pub delayed-requires-clause-room : goal.delayed-requires-clause-room
+delayed-requires-clause-room c =
+    omega (
+      arith,
+      c.requires.room,
+      c.in_ok-begin.ensures.adds.cells,
+      c.in_ok-begin.ensures.adds.grows.limit,
+      c.in_ok-next.ensures.adds.cells,
+      c.in_ok-next.ensures.adds.grows.limit,
+    )

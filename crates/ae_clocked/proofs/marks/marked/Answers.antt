@@ -2,7 +2,7 @@
 use Rattle.std.proofs.Common.{◌≡◌, ◌-◌, ◌<◌, ◌≤◌, arith}
 use Rattle.ae_netlist.proofs.Growing.{extends_trans}
 use Rattle.ae_netlist.proofs.Carried.{carries_extends}
-use Rattle.ae_clocked.proofs.Adding.{adds_most, adds_trans, net_added}
+use Rattle.ae_gates.proofs.Adding.{adds_most, adds_trans, net_added}
 use Rattle.ae_clocked.proofs.Belonging.{counter_grows}
 use Rattle.ae_clocked.proofs.Marked.{always_marks, alternates, at_is, begins_marks, never_marks, turns_mark}
 use Rattle.ae_clocked.proofs.marks.marked.Goals as goal
@@ -26,9 +26,6 @@ returns-then-period-eq2-clause-marks c = λ all e run is start reset.
     (at_is run _ _ c.args.period c.args.offset c.args.at 0 start c.requires.low c.requires.begins (omega arith)
     (c.requires.counter.words all e0 run is start reset) (c.in_ok-now.ensures.words all (carries_extends _ e) run is))
 
-pub returns-in_err-y-clause-adds : goal.returns-in_err-y-clause-adds
-returns-in_err-y-clause-adds c = adds_most 9 (omega arith) (adds_trans c.in_ok-begins.ensures.adds c.in_err-y.ensures.adds)
-
 pub returns-then-from-eq1-clause-adds : goal.returns-then-from-eq1-clause-adds
 returns-then-from-eq1-clause-adds c = adds_most 9 (omega arith) (adds_trans c.in_ok-begins.ensures.adds c.in_ok-y.ensures.adds)
 
@@ -44,9 +41,6 @@ returns-then-from-eq1-clause-marks c = λ all e run is start reset.
 
 pub at_phase-requires-3-clause-counter : goal.at_phase-requires-3-clause-counter
 at_phase-requires-3-clause-counter c = (c.args.rst.0, counter_grows _ _ _ _ _ c.in_ok-begins.ensures.adds.grows.extends c.requires.counter)
-
-pub returns-in_err-y-2-clause-adds : goal.returns-in_err-y-2-clause-adds
-returns-in_err-y-2-clause-adds c = adds_trans (adds_trans c.in_ok-begins.ensures.adds c.in_ok-ends.ensures.adds) c.in_err-y-2.ensures.adds
 
 pub returns-clause-adds : goal.returns-clause-adds
 returns-clause-adds c = adds_trans (adds_trans c.in_ok-begins.ensures.adds c.in_ok-ends.ensures.adds) c.in_ok-y-2.ensures.adds
@@ -88,42 +82,6 @@ turning-requires-clause-left c = net_added c.in_ok-ends.ensures.adds c.in_ok-beg
 pub turning-requires-clause-right : goal.turning-requires-clause-right
 turning-requires-clause-right c = c.in_ok-ends.ensures.net
 
-pub returns-in_err-never-clause-adds : goal.returns-in_err-never-clause-adds
-returns-in_err-never-clause-adds c = adds_most 9 (omega arith) c.in_err-never.ensures.adds
-
-pub returns-in_err-never-clause-registers : goal.returns-in_err-never-clause-registers
-returns-in_err-never-clause-registers c = omega (arith, c.in_err-never.ensures.registers)
-
-pub returns-in_err-never-clause-tests : goal.returns-in_err-never-clause-tests
-returns-in_err-never-clause-tests c = omega (arith, c.in_err-never.ensures.tests)
-
-pub returns-in_err-always-clause-adds : goal.returns-in_err-always-clause-adds
-returns-in_err-always-clause-adds c = adds_most 9 (omega arith) c.in_err-always.ensures.adds
-
-pub returns-in_err-always-clause-registers : goal.returns-in_err-always-clause-registers
-returns-in_err-always-clause-registers c = omega (arith, c.in_err-always.ensures.registers)
-
-pub returns-in_err-always-clause-tests : goal.returns-in_err-always-clause-tests
-returns-in_err-always-clause-tests c = omega (arith, c.in_err-always.ensures.tests)
-
-pub returns-in_err-now-clause-adds : goal.returns-in_err-now-clause-adds
-returns-in_err-now-clause-adds c = adds_most 9 (omega arith) c.in_err-now.ensures.adds
-
-pub returns-in_err-now-clause-registers : goal.returns-in_err-now-clause-registers
-returns-in_err-now-clause-registers c = omega (arith, c.in_err-now.ensures.registers)
-
-pub returns-in_err-now-clause-tests : goal.returns-in_err-now-clause-tests
-returns-in_err-now-clause-tests c = omega (arith, c.in_err-now.ensures.tests)
-
-pub returns-in_err-begins-clause-adds : goal.returns-in_err-begins-clause-adds
-returns-in_err-begins-clause-adds c = adds_most 9 (omega arith) c.in_err-begins.ensures.adds
-
-pub returns-in_err-begins-clause-registers : goal.returns-in_err-begins-clause-registers
-returns-in_err-begins-clause-registers c = omega (arith, c.in_err-begins.ensures.registers)
-
-pub returns-in_err-begins-clause-tests : goal.returns-in_err-begins-clause-tests
-returns-in_err-begins-clause-tests c = omega (arith, c.in_err-begins.ensures.tests)
-
 pub returns-then-from-eq0-clause-adds : goal.returns-then-from-eq0-clause-adds
 returns-then-from-eq0-clause-adds c = adds_most 9 (omega arith) c.in_ok-never.ensures.adds
 
@@ -151,32 +109,11 @@ returns-then-period-eq2-clause-registers c = omega (arith, c.in_ok-now.ensures.r
 pub returns-then-period-eq2-clause-tests : goal.returns-then-period-eq2-clause-tests
 returns-then-period-eq2-clause-tests c = omega (arith, c.in_ok-now.ensures.tests)
 
-pub returns-in_err-y-clause-registers : goal.returns-in_err-y-clause-registers
-returns-in_err-y-clause-registers c = omega (arith, c.in_ok-begins.ensures.registers, c.in_err-y.ensures.registers)
-
-pub returns-in_err-y-clause-tests : goal.returns-in_err-y-clause-tests
-returns-in_err-y-clause-tests c = omega (arith, c.in_ok-begins.ensures.tests, c.in_err-y.ensures.tests)
-
 pub returns-then-from-eq1-clause-registers : goal.returns-then-from-eq1-clause-registers
 returns-then-from-eq1-clause-registers c = omega (arith, c.in_ok-begins.ensures.registers, c.in_ok-y.ensures.registers)
 
 pub returns-then-from-eq1-clause-tests : goal.returns-then-from-eq1-clause-tests
 returns-then-from-eq1-clause-tests c = omega (arith, c.in_ok-begins.ensures.tests, c.in_ok-y.ensures.tests)
-
-pub returns-in_err-ends-clause-adds : goal.returns-in_err-ends-clause-adds
-returns-in_err-ends-clause-adds c = adds_most 9 (omega arith) (adds_trans c.in_ok-begins.ensures.adds c.in_err-ends.ensures.adds)
-
-pub returns-in_err-ends-clause-registers : goal.returns-in_err-ends-clause-registers
-returns-in_err-ends-clause-registers c = omega (arith, c.in_ok-begins.ensures.registers, c.in_err-ends.ensures.registers)
-
-pub returns-in_err-ends-clause-tests : goal.returns-in_err-ends-clause-tests
-returns-in_err-ends-clause-tests c = omega (arith, c.in_ok-begins.ensures.tests, c.in_err-ends.ensures.tests)
-
-pub returns-in_err-y-2-clause-registers : goal.returns-in_err-y-2-clause-registers
-returns-in_err-y-2-clause-registers c = omega (arith, c.in_ok-begins.ensures.registers, c.in_ok-ends.ensures.registers, c.in_err-y-2.ensures.registers)
-
-pub returns-in_err-y-2-clause-tests : goal.returns-in_err-y-2-clause-tests
-returns-in_err-y-2-clause-tests c = omega (arith, c.in_ok-begins.ensures.tests, c.in_ok-ends.ensures.tests, c.in_err-y-2.ensures.tests)
 
 pub returns-clause-registers : goal.returns-clause-registers
 returns-clause-registers c = omega (arith, c.in_ok-begins.ensures.registers, c.in_ok-ends.ensures.registers, c.in_ok-y-2.ensures.registers)
@@ -198,3 +135,20 @@ returns-then-from-eq1-clause-net c = c.in_ok-y.ensures.net
 
 pub returns-clause-net : goal.returns-clause-net
 returns-clause-net c = c.in_ok-y-2.ensures.net
+
+pub begun-requires-clause-room : goal.begun-requires-clause-room
+begun-requires-clause-room c = omega (arith, c.requires.room, c.in_ok-begins.ensures.adds.cells, c.in_ok-begins.ensures.adds.grows.limit)
+
+pub at_phase-requires-3-clause-room : goal.at_phase-requires-3-clause-room
+at_phase-requires-3-clause-room c = omega (arith, c.requires.room, c.in_ok-begins.ensures.adds.cells, c.in_ok-begins.ensures.adds.grows.limit)
+
+pub turning-requires-clause-room : goal.turning-requires-clause-room
+turning-requires-clause-room c =
+    omega (
+      arith,
+      c.requires.room,
+      c.in_ok-begins.ensures.adds.cells,
+      c.in_ok-begins.ensures.adds.grows.limit,
+      c.in_ok-ends.ensures.adds.cells,
+      c.in_ok-ends.ensures.adds.grows.limit,
+    )

@@ -2,10 +2,11 @@
 use Rattle.std.proofs.Common.{◌<◌, length, arith}
 use Rattle.ae_netlist.specs.Runs.{Carries}
 use Rattle.ae_netlist.proofs.Carried.{carries_later, carries_trans}
-use Rattle.ae_clocked.proofs.Adding.{adds_connect, adds_trans, grows_trans, net_added, adds_most}
-use Rattle.ae_clocked.proofs.Added.{grows_length, back, connect_carries, net_within, net_own, own_register, register_later}
+use Rattle.ae_gates.proofs.Adding.{adds_trans, grows_trans, net_added}
+use Rattle.ae_clocked.proofs.Connecting.{adds_connect, connect_carries, net_own, own_register, register_later}
+use Rattle.ae_gates.proofs.Added.{grows_length, back, net_within}
 use Rattle.ae_netlist.specs.Runs.{word_at}
-use Rattle.ae_clocked.proofs.Turns.{word_below}
+use Rattle.ae_gates.proofs.Fits.{held_fits}
 use Rattle.ae_clocked.proofs.Marked.{bit_is, turn_xor}
 use Rattle.ae_clocked.proofs.marks.turning.Goals as goal
 
@@ -63,10 +64,10 @@ returns-clause-words c = λ all k run is t l.
     c.in_ok-begin.ensures.adds) c.in_ok-next.ensures.adds in
     let since = adds_trans (adds_trans (adds_trans c.in_ok-once.ensures.adds c.in_ok-after.ensures.adds) c.in_ok-begin.ensures.adds)
     c.in_ok-next.ensures.adds in
-    let y_bit : word_at run t c.in_ok-y.y.0 < 2 = word_below all run t _ 1 is l0
+    let y_bit : word_at run t c.in_ok-y.y.0 < 2 = held_fits all run t _ 1 is l0
     (k.nets _ _ (c.close.ensures.nets _ _ (net_added since c.in_ok-y.ensures.net))) in
-    let a_bit : word_at run t c.args.a.0 < 2 = word_below all run t _ 1 is l0 (k.nets _ _ (c.close.ensures.nets _ _ (net_added all_added c.requires.left))) in
-    let b_bit : word_at run t c.args.b.0 < 2 = word_below all run t _ 1 is l0 (k.nets _ _ (c.close.ensures.nets _ _ (net_added all_added c.requires.right))) in
+    let a_bit : word_at run t c.args.a.0 < 2 = held_fits all run t _ 1 is l0 (k.nets _ _ (c.close.ensures.nets _ _ (net_added all_added c.requires.left))) in
+    let b_bit : word_at run t c.args.b.0 < 2 = held_fits all run t _ 1 is l0 (k.nets _ _ (c.close.ensures.nets _ _ (net_added all_added c.requires.right))) in
     turn_xor _ _ _ _ _ _ _ _ _ _ y_bit a_bit b_bit
     (c.in_ok-once.ensures.words all k1 run is t l0)
     (c.in_ok-after.ensures.words all (carries_later _ _ l2 k2) run is t l0)
@@ -88,67 +89,6 @@ differ-requires-2-clause-right c = net_added (adds_trans c.in_ok-y.ensures.adds 
 
 pub choose-requires-clause-left : goal.choose-requires-clause-left
 choose-requires-clause-left c = c.in_ok-begin.ensures.net
-
-pub returns-in_err-y-clause-adds : goal.returns-in_err-y-clause-adds
-returns-in_err-y-clause-adds c = adds_most 5 (omega arith) c.in_err-y.ensures.adds
-
-pub returns-in_err-y-clause-registers : goal.returns-in_err-y-clause-registers
-returns-in_err-y-clause-registers c = omega (arith, c.in_err-y.ensures.registers)
-
-pub returns-in_err-y-clause-tests : goal.returns-in_err-y-clause-tests
-returns-in_err-y-clause-tests c = omega (arith, c.in_err-y.ensures.tests)
-
-pub returns-in_err-once-clause-adds : goal.returns-in_err-once-clause-adds
-returns-in_err-once-clause-adds c = adds_most 5 (omega arith) (adds_trans c.in_ok-y.ensures.adds c.in_err-once.ensures.adds)
-
-pub returns-in_err-once-clause-registers : goal.returns-in_err-once-clause-registers
-returns-in_err-once-clause-registers c = omega (arith, c.in_ok-y.ensures.registers, c.in_err-once.ensures.registers)
-
-pub returns-in_err-once-clause-tests : goal.returns-in_err-once-clause-tests
-returns-in_err-once-clause-tests c = omega (arith, c.in_ok-y.ensures.tests, c.in_err-once.ensures.tests)
-
-pub returns-in_err-after-clause-adds : goal.returns-in_err-after-clause-adds
-returns-in_err-after-clause-adds c =
-    adds_most 5 (omega arith) (adds_trans (adds_trans c.in_ok-y.ensures.adds c.in_ok-once.ensures.adds) c.in_err-after.ensures.adds)
-
-pub returns-in_err-after-clause-registers : goal.returns-in_err-after-clause-registers
-returns-in_err-after-clause-registers c = omega (arith, c.in_ok-y.ensures.registers, c.in_ok-once.ensures.registers, c.in_err-after.ensures.registers)
-
-pub returns-in_err-after-clause-tests : goal.returns-in_err-after-clause-tests
-returns-in_err-after-clause-tests c = omega (arith, c.in_ok-y.ensures.tests, c.in_ok-once.ensures.tests, c.in_err-after.ensures.tests)
-
-pub returns-in_err-begin-clause-adds : goal.returns-in_err-begin-clause-adds
-returns-in_err-begin-clause-adds c =
-    adds_most 5 (omega arith) (adds_trans (adds_trans (adds_trans c.in_ok-y.ensures.adds c.in_ok-once.ensures.adds) c.in_ok-after.ensures.adds)
-    c.in_err-begin.ensures.adds)
-
-pub returns-in_err-begin-clause-registers : goal.returns-in_err-begin-clause-registers
-returns-in_err-begin-clause-registers c =
-    omega (arith, c.in_ok-y.ensures.registers, c.in_ok-once.ensures.registers, c.in_ok-after.ensures.registers, c.in_err-begin.ensures.registers)
-
-pub returns-in_err-begin-clause-tests : goal.returns-in_err-begin-clause-tests
-returns-in_err-begin-clause-tests c =
-    omega (arith, c.in_ok-y.ensures.tests, c.in_ok-once.ensures.tests, c.in_ok-after.ensures.tests, c.in_err-begin.ensures.tests)
-
-pub returns-in_err-next-clause-adds : goal.returns-in_err-next-clause-adds
-returns-in_err-next-clause-adds c =
-    adds_trans (adds_trans (adds_trans (adds_trans c.in_ok-y.ensures.adds c.in_ok-once.ensures.adds) c.in_ok-after.ensures.adds) c.in_ok-begin.ensures.adds)
-    c.in_err-next.ensures.adds
-
-pub returns-in_err-next-clause-registers : goal.returns-in_err-next-clause-registers
-returns-in_err-next-clause-registers c =
-    omega (
-      arith,
-      c.in_ok-y.ensures.registers,
-      c.in_ok-once.ensures.registers,
-      c.in_ok-after.ensures.registers,
-      c.in_ok-begin.ensures.registers,
-      c.in_err-next.ensures.registers,
-    )
-
-pub returns-in_err-next-clause-tests : goal.returns-in_err-next-clause-tests
-returns-in_err-next-clause-tests c =
-    omega (arith, c.in_ok-y.ensures.tests, c.in_ok-once.ensures.tests, c.in_ok-after.ensures.tests, c.in_ok-begin.ensures.tests, c.in_err-next.ensures.tests)
 
 pub returns-clause-registers : goal.returns-clause-registers
 returns-clause-registers c =
@@ -172,4 +112,46 @@ returns-clause-tests c =
       c.in_ok-begin.ensures.tests,
       c.in_ok-next.ensures.tests,
       c.close.ensures.tests,
+    )
+
+pub differ-requires-clause-room : goal.differ-requires-clause-room
+differ-requires-clause-room c = omega (arith, c.requires.room, c.in_ok-y.ensures.adds.cells, c.in_ok-y.ensures.adds.grows.limit)
+
+pub differ-requires-2-clause-room : goal.differ-requires-2-clause-room
+differ-requires-2-clause-room c =
+    omega (
+      arith,
+      c.requires.room,
+      c.in_ok-y.ensures.adds.cells,
+      c.in_ok-y.ensures.adds.grows.limit,
+      c.in_ok-once.ensures.adds.cells,
+      c.in_ok-once.ensures.adds.grows.limit,
+    )
+
+pub constant-requires-clause-room : goal.constant-requires-clause-room
+constant-requires-clause-room c =
+    omega (
+      arith,
+      c.requires.room,
+      c.in_ok-y.ensures.adds.cells,
+      c.in_ok-y.ensures.adds.grows.limit,
+      c.in_ok-once.ensures.adds.cells,
+      c.in_ok-once.ensures.adds.grows.limit,
+      c.in_ok-after.ensures.adds.cells,
+      c.in_ok-after.ensures.adds.grows.limit,
+    )
+
+pub choose-requires-clause-room : goal.choose-requires-clause-room
+choose-requires-clause-room c =
+    omega (
+      arith,
+      c.requires.room,
+      c.in_ok-y.ensures.adds.cells,
+      c.in_ok-y.ensures.adds.grows.limit,
+      c.in_ok-once.ensures.adds.cells,
+      c.in_ok-once.ensures.adds.grows.limit,
+      c.in_ok-after.ensures.adds.cells,
+      c.in_ok-after.ensures.adds.grows.limit,
+      c.in_ok-begin.ensures.adds.cells,
+      c.in_ok-begin.ensures.adds.grows.limit,
     )

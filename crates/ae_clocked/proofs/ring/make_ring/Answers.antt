@@ -3,7 +3,7 @@ use Rattle.std.proofs.Common.{◌≡◌, arith, eq-eqb}
 use Rattle.ae_netlist.proofs.Growing.{extends_trans, net_later}
 use Rattle.ae_netlist.proofs.Carried.{every_from}
 use Rattle.ae_clocked.proofs.Belonging.{belongs_grows, phase_keeps}
-use Rattle.ae_clocked.proofs.Making.{counter_net, counter_counts, memories_after, memories_most, memories_of}
+use Rattle.ae_clocked.proofs.Making.{counter_net, counter_counts, memories_after}
 use Rattle.ae_clocked.proofs.ring.make_ring.Goals as goal
 
 pub store-requires-clause-place : goal.store-requires-clause-place
@@ -13,24 +13,11 @@ store-requires-clause-place c =
 pub store-requires-clause-net : goal.store-requires-clause-net
 store-requires-clause-net c = net_later c.in_ok-counter.ensures.adds.grows.extends c.requires.net
 
-pub returns-in_err-counter-clause-adds : goal.returns-in_err-counter-clause-adds
-returns-in_err-counter-clause-adds c = memories_most 14 1 (omega arith) (omega arith) (memories_of c.in_err-counter.ensures.adds)
-
-pub returns-in_err-memory-clause-adds : goal.returns-in_err-memory-clause-adds
-returns-in_err-memory-clause-adds c = memories_after c.in_ok-counter.ensures.adds c.in_err-memory.ensures.adds
-
 pub returns-clause-adds : goal.returns-clause-adds
 returns-clause-adds c = memories_after c.in_ok-counter.ensures.adds c.in_ok-memory.ensures.adds
 
-pub returns-in_err-memory-clause-belongs : goal.returns-in_err-memory-clause-belongs
-returns-in_err-memory-clause-belongs c = belongs_grows _ _ _ c.in_err-memory.ensures.adds.grows c.in_ok-counter.ensures.belongs
-
 pub returns-clause-belongs : goal.returns-clause-belongs
 returns-clause-belongs c = belongs_grows _ _ _ c.in_ok-memory.ensures.adds.grows c.in_ok-counter.ensures.belongs
-
-pub returns-in_err-memory-clause-keeps : goal.returns-in_err-memory-clause-keeps
-returns-in_err-memory-clause-keeps c =
-    phase_keeps _ _ _ c.in_ok-counter.counter c.in_ok-counter.ensures.rst c.in_ok-counter.ensures.keeps (λ n found. (c.in_ok-counter.ensures.again n found).2)
 
 pub returns-clause-keeps : goal.returns-clause-keeps
 returns-clause-keeps c =
@@ -74,3 +61,6 @@ returns-clause-again c = λ net most found.
       c.bits_for-bits.ensures.enough,
     ) in
     (c.in_ok-counter.ensures.again net (rw depth found)).2
+
+pub store-requires-clause-room : goal.store-requires-clause-room
+store-requires-clause-room c = omega (arith, c.requires.room, c.in_ok-counter.ensures.adds.cells, c.in_ok-counter.ensures.adds.grows.limit)

@@ -35,6 +35,6 @@ ring_tap-requires-clause-counter c =
 pub returns-clause-tap : goal.returns-clause-tap
 returns-clause-tap c =
     let sum : 4096 * ((c.args.tap - 1) / 4096) + (c.args.tap - 4096 * ((c.args.tap - 1) / 4096)) ≡ c.args.tap = omega arith in
-    row_tap _ _ c.ring_tap.result c.args.links.now _ c.args.width c.args.tap ((c.args.tap - 1) / 4096)
-    (c.args.tap - 4096 * ((c.args.tap - 1) / 4096)) c.ring_tap.ensures.adds.grows.extends
-    (row_found c.args.links.now c.args.tap none c.requires.late c.requires.long) sum c.ring_tap.ensures.tap
+    row_tap _ _ c.in_ok-y.y c.args.links.now _ c.args.width c.args.tap ((c.args.tap - 1) / 4096)
+    (c.args.tap - 4096 * ((c.args.tap - 1) / 4096)) c.in_ok-y.ensures.adds.grows.extends
+    (row_found c.args.links.now c.args.tap none c.requires.late c.requires.long) sum c.in_ok-y.ensures.tap

@@ -3,7 +3,7 @@ use Rattle.std.proofs.Common.{ℕ, ◌≡◌, ◌+◌, ◌-◌, ◌*◌, ◌/◌
 use Rattle.std.proofs.lemmas.List.{length_push}
 use Rattle.ae_clocked.specs.Delays.{IsTap}
 use Rattle.ae_clocked.specs.Phases.{made_of}
-use Rattle.ae_clocked.proofs.Adding.{adds_none}
+use Rattle.ae_gates.proofs.Adding.{adds_none}
 use Rattle.ae_clocked.proofs.Belonging.{belongs_grows, keeps_same}
 use Rattle.ae_clocked.specs.Rings.{HoldsRing}
 use Rattle.ae_clocked.proofs.Making.{memories_before, memories_most, memories_of, memories_trans, tap_grows}
@@ -24,21 +24,6 @@ loop-j-init c = record {
   head = tap_none _ _ _ _ c.requires.net;
 }
 
-pub returns-in_err-ring-clause-keeps : goal.returns-in_err-ring-clause-keeps
-returns-in_err-ring-clause-keeps c = keeps_trans c.loop-j.invariant.keeps c.in_err-ring.ensures.keeps
-
-pub returns-in_err-ring-clause-adds : goal.returns-in_err-ring-clause-adds
-returns-in_err-ring-clause-adds c = memories_most _ _ (omega arith) (omega arith) (memories_trans c.loop-j.invariant.adds c.in_err-ring.ensures.adds)
-
-pub returns-in_err-push-clause-keeps : goal.returns-in_err-push-clause-keeps
-returns-in_err-push-clause-keeps c = keeps_trans c.loop-j.invariant.keeps c.in_ok-ring.ensures.keeps
-
-pub returns-in_err-push-clause-adds : goal.returns-in_err-push-clause-adds
-returns-in_err-push-clause-adds c = memories_most _ _ (omega arith) (omega arith) (memories_trans c.loop-j.invariant.adds c.in_ok-ring.ensures.adds)
-
-pub returns-in_err-push-clause-belongs : goal.returns-in_err-push-clause-belongs
-returns-in_err-push-clause-belongs c = c.in_ok-ring.ensures.belongs
-
 pub ring_tap-requires-clause-some : goal.ring_tap-requires-clause-some
 ring_tap-requires-clause-some c = omega (arith, c.in_ok-ring.ensures.ring.low)
 
@@ -50,17 +35,6 @@ ring_tap-requires-clause-memory c = c.in_ok-ring.ensures.ring.memory
 
 pub ring_tap-requires-clause-counter : goal.ring_tap-requires-clause-counter
 ring_tap-requires-clause-counter c = c.in_ok-ring.ensures.ring.counter
-
-pub returns-in_err-head-clause-keeps : goal.returns-in_err-head-clause-keeps
-returns-in_err-head-clause-keeps c = keeps_trans c.loop-j.invariant.keeps c.in_ok-ring.ensures.keeps
-
-pub returns-in_err-head-clause-adds : goal.returns-in_err-head-clause-adds
-returns-in_err-head-clause-adds c =
-    memories_most _ _ (omega arith) (omega arith) (memories_before (memories_trans c.loop-j.invariant.adds c.in_ok-ring.ensures.adds)
-    c.in_err-head.ensures.adds)
-
-pub returns-in_err-head-clause-belongs : goal.returns-in_err-head-clause-belongs
-returns-in_err-head-clause-belongs c = belongs_grows _ _ _ c.in_err-head.ensures.adds.grows c.in_ok-ring.ensures.belongs
 
 pub loop-j-preserved : goal.loop-j-preserved
 loop-j-preserved c =
@@ -105,21 +79,6 @@ returns-clause-links c =
     (record { head = c.loop-j.head; ring = c.in_ok-ring-2.ring }) ∷ [] = c.in_ok-push-2.ensures.items in
     rw pushed (links_more _ _ _ _ _ _ _ c.loop-j.j _ _ more.adds.grows.extends was.long was.links tap left holds)
 
-pub returns-in_err-ring-2-clause-keeps : goal.returns-in_err-ring-2-clause-keeps
-returns-in_err-ring-2-clause-keeps c = keeps_trans c.loop-j.invariant.keeps c.in_err-ring-2.ensures.keeps
-
-pub returns-in_err-ring-2-clause-adds : goal.returns-in_err-ring-2-clause-adds
-returns-in_err-ring-2-clause-adds c = memories_most _ _ (omega arith) (omega arith) (memories_trans c.loop-j.invariant.adds c.in_err-ring-2.ensures.adds)
-
-pub returns-in_err-push-2-clause-keeps : goal.returns-in_err-push-2-clause-keeps
-returns-in_err-push-2-clause-keeps c = keeps_trans c.loop-j.invariant.keeps c.in_ok-ring-2.ensures.keeps
-
-pub returns-in_err-push-2-clause-adds : goal.returns-in_err-push-2-clause-adds
-returns-in_err-push-2-clause-adds c = memories_most _ _ (omega arith) (omega arith) (memories_trans c.loop-j.invariant.adds c.in_ok-ring-2.ensures.adds)
-
-pub returns-in_err-push-2-clause-belongs : goal.returns-in_err-push-2-clause-belongs
-returns-in_err-push-2-clause-belongs c = c.in_ok-ring-2.ensures.belongs
-
 pub returns-clause-belongs : goal.returns-clause-belongs
 returns-clause-belongs c = c.in_ok-ring-2.ensures.belongs
 
@@ -143,3 +102,20 @@ returns-clause-long c =
     let pushed : c.push-2.new.self.items ≡ c.loop-j.links.items ++
     (record { head = c.loop-j.head; ring = c.in_ok-ring-2.ring }) ∷ [] = c.in_ok-push-2.ensures.items in
     rw pushed (length_push c.loop-j.links.items _ ∙ omega (arith, c.loop-j.invariant.long))
+
+pub make_ring-requires-clause-room : goal.make_ring-requires-clause-room
+make_ring-requires-clause-room c = omega (arith, c.requires.room, c.loop-j.invariant.adds.cells, c.loop-j.invariant.adds.grows.limit)
+
+pub ring_tap-requires-clause-room : goal.ring_tap-requires-clause-room
+ring_tap-requires-clause-room c =
+    omega (
+      arith,
+      c.requires.room,
+      c.loop-j.invariant.adds.cells,
+      c.loop-j.invariant.adds.grows.limit,
+      c.in_ok-ring.ensures.adds.cells,
+      c.in_ok-ring.ensures.adds.grows.limit,
+    )
+
+pub make_ring-requires-2-clause-room : goal.make_ring-requires-2-clause-room
+make_ring-requires-2-clause-room c = omega (arith, c.requires.room, c.loop-j.invariant.adds.cells, c.loop-j.invariant.adds.grows.limit)

@@ -1,7 +1,7 @@
 use Rattle.std.proofs.Common.{◌≡◌, ◌+◌, ◌*◌, ◌≤◌, min, length, Some}
 use Rattle.ae_netlist.specs.declared.cell.NetId.{NetId}
 use Rattle.ae_netlist.specs.Counts.{count_of, is_register}
-use Rattle.ae_clocked.specs.Signals.{is_test}
+use Rattle.ae_gates.specs.Cells.{is_test}
 use Rattle.ae_clocked.specs.Phases.{Belongs, KeepsCounters, kept_at, made_of}
 use Rattle.ae_clocked.specs.Delays.{IsTap}
 use Rattle.ae_clocked.specs.Rings.{AddsMemories}

@@ -1,6 +1,6 @@
-use Rattle.std.proofs.Common.{ℕ, ◌≤◌, ◌+◌, arith, get_or}
+use Rattle.std.proofs.Common.{arith, get_or}
 use Rattle.std.proofs.lemmas.Option.{slice_get-get_or}
-use Rattle.ae_clocked.proofs.Adding.{adds_most, adds_trans, net_added}
+use Rattle.ae_gates.proofs.Adding.{adds_trans, net_added}
 use Rattle.ae_clocked.proofs.Belonging.{belongs_grows}
 use Rattle.ae_moves.specs.declared.trip.Choice.TheVariants.{Delayed}
 use Rattle.ae_columns.specs.declared.steps.Step.{Step}
@@ -17,16 +17,10 @@ returns-clause-column c =
     let there = slice_get-get_or c.args.steps.now c.step_in-first.result no_step c.step_in-first.ensures.within in
     early_of _ _ _ _ c.args.phase.net.0 c.args.phase.limit (first_phase c.args.phase) c.args.ins.now (λ p. choice_in p c.args.steps.now) _ _
     (get_or c.args.steps.now c.step_in-first.result no_step).take
-    (c.step_in-first.ensures.is _ there) c.in_ok-net.ensures.column (rw c.in_ok-net.ensures.keeps.rst at c.registered.ensures.column)
-
-register_room : (n : ℕ) → n ≤ n + 3
-register_room n = omega arith
-
-pub returns-in_err-net-clause-adds : goal.returns-in_err-net-clause-adds
-returns-in_err-net-clause-adds c = adds_most _ (register_room _) c.in_err-net.ensures.adds
+    (c.step_in-first.ensures.is _ there) c.in_ok-net.ensures.column (rw c.in_ok-net.ensures.keeps.rst at c.in_ok-y.ensures.column)
 
 pub returns-clause-adds : goal.returns-clause-adds
-returns-clause-adds c = adds_trans c.in_ok-net.ensures.adds c.registered.ensures.adds
+returns-clause-adds c = adds_trans c.in_ok-net.ensures.adds c.in_ok-y.ensures.adds
 
 pub registered-requires-clause-reset : goal.registered-requires-clause-reset
 registered-requires-clause-reset c = rw c.in_ok-net.ensures.keeps.rst (net_added c.in_ok-net.ensures.adds c.requires.phase.reset)
@@ -35,8 +29,11 @@ pub registered-requires-clause-net : goal.registered-requires-clause-net
 registered-requires-clause-net c = c.in_ok-net.ensures.column.net
 
 pub returns-clause-belongs : goal.returns-clause-belongs
-returns-clause-belongs c = belongs_grows _ _ _ c.registered.ensures.adds.grows c.in_ok-net.ensures.belongs
+returns-clause-belongs c = belongs_grows _ _ _ c.in_ok-y.ensures.adds.grows c.in_ok-net.ensures.belongs
 
 pub registered-requires-clause-fits : goal.registered-requires-clause-fits
 registered-requires-clause-fits c = λ w is.
     rw is at (c.requires.ready.ready c.step_in-first.result _ (slice_get-get_or c.args.steps.now c.step_in-first.result no_step c.step_in-first.ensures.within))
+
+pub registered-requires-clause-room : goal.registered-requires-clause-room
+registered-requires-clause-room c = omega (arith, c.requires.room, c.in_ok-net.ensures.adds.cells, c.in_ok-net.ensures.adds.grows.limit)

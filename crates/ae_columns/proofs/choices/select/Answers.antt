@@ -1,6 +1,6 @@
 use Rattle.std.proofs.Common.{get_or, arith}
 use Rattle.std.proofs.lemmas.Option.{slice_get-get_or}
-use Rattle.ae_clocked.proofs.Adding.{adds_most, adds_trans}
+use Rattle.ae_gates.proofs.Adding.{adds_most, adds_trans}
 use Rattle.ae_columns.specs.declared.steps.Step.{Step}
 use Rattle.ae_moves.specs.declared.trip.Choice.TheVariants.{Delayed}
 use Rattle.ae_columns.proofs.Choosing.{first_column, next_column, whole_column, phase_grows, ready_grows}
@@ -45,10 +45,6 @@ loop-k-preserved c =
           (slice_get-get_or c.args.steps.now c.loop-k.k no_step c.loop-k-test.true) (c.in_ok-net-2.ensures.column _ c.loop-k.invariant.column);
     }
 
-pub returns-in_err-net-2-clause-adds : goal.returns-in_err-net-2-clause-adds
-returns-in_err-net-2-clause-adds c =
-    adds_most _ (omega (arith, c.loop-k.auto.k, c.loop-k-test.true)) (adds_trans c.loop-k.invariant.adds c.in_err-net-2.ensures.adds)
-
 pub returns-clause-adds : goal.returns-clause-adds
 returns-clause-adds c = adds_most _ (omega (arith, c.loop-k-test.false, c.loop-k.invariant.within)) c.loop-k.invariant.adds
 
@@ -58,7 +54,6 @@ returns-clause-column c = whole_column _ _ _ _ _ _ c.args.steps.now c.loop-k.k _
 pub returns-clause-counted : goal.returns-clause-counted
 returns-clause-counted c = counted_most _ _ (omega arith) (omega (arith, c.loop-k-test.false, c.loop-k.invariant.within)) c.loop-k.invariant.counted
 
-pub returns-in_err-net-2-clause-counted : goal.returns-in_err-net-2-clause-counted
-returns-in_err-net-2-clause-counted c =
-    counted_most _ _ (omega arith) (omega (arith, c.loop-k.auto.k, c.loop-k-test.true))
-    (counted_trans c.loop-k.invariant.counted c.in_err-net-2.ensures.counted)
+pub choose_from-requires-clause-room : goal.choose_from-requires-clause-room
+choose_from-requires-clause-room c =
+    omega (arith, c.requires.room, c.loop-k.invariant.adds.cells, c.loop-k.invariant.adds.grows.limit, c.loop-k.auto.k, c.loop-k-test.true)

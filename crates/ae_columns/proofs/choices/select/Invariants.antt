@@ -1,5 +1,5 @@
 use Rattle.std.proofs.Common.{take, length, ◌+◌, ◌-◌, ◌*◌, ◌≤◌}
-use Rattle.ae_clocked.specs.Signals.{Adds}
+use Rattle.ae_gates.specs.Cells.{Adds}
 use Rattle.ae_columns.specs.Counts.{Counted}
 use Rattle.ae_columns.specs.Plans.{choice_in}
 use Rattle.ae_columns.specs.Columns.{IsColumn}

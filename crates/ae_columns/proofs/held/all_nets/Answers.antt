@@ -2,8 +2,8 @@
 use Rattle.std.proofs.Common.{ℕ, ◌≡◌, ◌+◌, ◌-◌, cond, List, ◌++◌, length, arith, ap, ◌∙◌}
 use Rattle.ae_netlist.specs.declared.cell.NetId.{NetId}
 use Rattle.ae_netlist.proofs.Growing.{net_later}
-use Rattle.ae_clocked.proofs.Added.{own_net}
-use Rattle.ae_clocked.proofs.Adding.{adds_most, adds_none, adds_trans}
+use Rattle.ae_gates.proofs.Added.{own_net}
+use Rattle.ae_gates.proofs.Adding.{adds_most, adds_none, adds_trans}
 use Rattle.ae_clocked.proofs.Belonging.{keeps_same}
 use Rattle.ae_moves.proofs.Held.{sum_more}
 use Rattle.ae_columns.specs.Held.{is_kept}
@@ -15,12 +15,6 @@ use Rattle.ae_clocked.proofs.InRow.{keeps_trans}
 
 pub kept_net-requires-clause-belongs : goal.kept_net-requires-clause-belongs
 kept_net-requires-clause-belongs c = c.loop-q.invariant.belongs
-
-pub returns-in_err-net-clause-belongs : goal.returns-in_err-net-clause-belongs
-returns-in_err-net-clause-belongs c = c.in_err-net.ensures.belongs
-
-pub returns-in_err-push-clause-belongs : goal.returns-in_err-push-clause-belongs
-returns-in_err-push-clause-belongs c = c.in_ok-net.ensures.belongs
 
 pub returns-clause-belongs : goal.returns-clause-belongs
 returns-clause-belongs c = c.loop-q.invariant.belongs
@@ -41,26 +35,6 @@ loop-q-init c =
 pub kept_net-requires-clause-net : goal.kept_net-requires-clause-net
 kept_net-requires-clause-net c =
     own_net (net_later c.loop-q.invariant.adds.grows.extends (c.requires.nets c.loop-q.q (omega (arith, c.loop-q-test.true, c.requires.long))).1)
-
-pub returns-in_err-net-clause-keeps : goal.returns-in_err-net-clause-keeps
-returns-in_err-net-clause-keeps c = keeps_trans c.loop-q.invariant.keeps c.in_err-net.ensures.keeps
-
-pub returns-in_err-push-clause-keeps : goal.returns-in_err-push-clause-keeps
-returns-in_err-push-clause-keeps c = keeps_trans c.loop-q.invariant.keeps c.in_ok-net.ensures.keeps
-
-pub returns-in_err-net-clause-adds : goal.returns-in_err-net-clause-adds
-returns-in_err-net-clause-adds c =
-    let one = sum_more (λ (q : ℕ). cond (is_kept c.args.held.now q) 1 0) c.loop-q.q in
-    let rest : c.loop-q.q + 1 + (length c.args.held.now - (c.loop-q.q + 1)) ≡ length c.args.held.now = omega (arith, c.loop-q-test.true) in
-    let part = rw rest at (sums_part (λ (q : ℕ). cond (is_kept c.args.held.now q) 1 0) (c.loop-q.q + 1) (length c.args.held.now - (c.loop-q.q + 1))) in
-    adds_most _ (omega (arith, one, part)) (adds_trans c.loop-q.invariant.adds c.in_err-net.ensures.adds)
-
-pub returns-in_err-push-clause-adds : goal.returns-in_err-push-clause-adds
-returns-in_err-push-clause-adds c =
-    let one = sum_more (λ (q : ℕ). cond (is_kept c.args.held.now q) 1 0) c.loop-q.q in
-    let rest : c.loop-q.q + 1 + (length c.args.held.now - (c.loop-q.q + 1)) ≡ length c.args.held.now = omega (arith, c.loop-q-test.true) in
-    let part = rw rest at (sums_part (λ (q : ℕ). cond (is_kept c.args.held.now q) 1 0) (c.loop-q.q + 1) (length c.args.held.now - (c.loop-q.q + 1))) in
-    adds_most _ (omega (arith, one, part)) (adds_trans c.loop-q.invariant.adds c.in_ok-net.ensures.adds)
 
 pub loop-q-preserved : goal.loop-q-preserved
 loop-q-preserved c =
@@ -90,3 +64,10 @@ returns-clause-counted c =
 
 pub returns-clause-kept : goal.returns-clause-kept
 returns-clause-kept c = kept_whole c.loop-q.q _ _ _ _ _ _ _ _ (omega (arith, c.loop-q-test.false)) c.requires.long c.loop-q.invariant.kept
+
+pub kept_net-requires-clause-room : goal.kept_net-requires-clause-room
+kept_net-requires-clause-room c =
+    let one = sum_more (λ (q : ℕ). cond (is_kept c.args.held.now q) 1 0) c.loop-q.q in
+    let rest : c.loop-q.q + 1 + (length c.args.held.now - (c.loop-q.q + 1)) ≡ length c.args.held.now = omega (arith, c.loop-q-test.true) in
+    let part = rw rest at (sums_part (λ (q : ℕ). cond (is_kept c.args.held.now q) 1 0) (c.loop-q.q + 1) (length c.args.held.now - (c.loop-q.q + 1))) in
+    omega (arith, c.requires.room, c.loop-q.invariant.adds.cells, c.loop-q.invariant.adds.grows.limit, one, part)

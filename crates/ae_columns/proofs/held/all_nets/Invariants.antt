@@ -1,5 +1,5 @@
 use Rattle.std.proofs.Common.{◌*◌}
-use Rattle.ae_clocked.specs.Signals.{Adds}
+use Rattle.ae_gates.specs.Cells.{Adds}
 use Rattle.ae_clocked.specs.Phases.{Belongs, KeepsCounters, made_of}
 use Rattle.ae_columns.specs.Counts.{Counted}
 use Rattle.ae_columns.specs.Held.{kept_count}

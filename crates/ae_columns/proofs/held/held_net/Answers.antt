@@ -1,20 +1,17 @@
 -- The counter of the output's blocks, and the register that follows it.
-use Rattle.std.proofs.Common.{ℕ, ◌≡◌, ◌+◌, ◌-◌, ◌%◌, ◌<◌, ◌≤◌, arith, ap, ◌∙◌}
+use Rattle.std.proofs.Common.{ℕ, ◌≡◌, ◌+◌, ◌-◌, ◌%◌, ◌<◌, arith, ap, ◌∙◌}
 use Rattle.std.proofs.lemmas.Nat.{mod_below}
 use Rattle.std.proofs.Math.Nat.{mod-add-mod}
 use Rattle.ae_netlist.specs.Circuit.{width_of}
 use Rattle.ae_netlist.proofs.Growing.{net_later, net_width}
-use Rattle.ae_clocked.proofs.Added.{own_net}
-use Rattle.ae_clocked.proofs.Adding.{adds_most, adds_trans}
+use Rattle.ae_gates.proofs.Added.{own_net}
+use Rattle.ae_gates.proofs.Adding.{adds_trans}
 use Rattle.ae_clocked.proofs.Belonging.{belongs_grows, phase_keeps}
 use Rattle.ae_columns.specs.Held.{held_phase}
 use Rattle.ae_columns.proofs.held.held_net.Goals as goal
 
 pub width_at-width-requires : goal.width_at-width-requires
 width_at-width-requires c = own_net (net_later c.in_ok-counter.ensures.adds.grows.extends c.requires.net)
-
-pub returns-in_err-y-clause-adds : goal.returns-in_err-y-clause-adds
-returns-in_err-y-clause-adds c = adds_trans c.in_ok-counter.ensures.adds c.in_err-y.ensures.adds
 
 pub returns-clause-adds : goal.returns-clause-adds
 returns-clause-adds c = adds_trans c.in_ok-counter.ensures.adds c.in_ok-y.ensures.adds
@@ -24,13 +21,6 @@ hold-requires-clause-net c = rw c.width_at-width.ensures (own_net (net_later c.i
 
 pub hold-requires-clause-counter : goal.hold-requires-clause-counter
 hold-requires-clause-counter c = (c.args.clocks.now.rst, c.in_ok-counter.ensures.counts)
-
-pub returns-in_err-y-clause-belongs : goal.returns-in_err-y-clause-belongs
-returns-in_err-y-clause-belongs c = belongs_grows _ _ _ c.in_err-y.ensures.adds.grows c.in_ok-counter.ensures.belongs
-
-pub returns-in_err-y-clause-keeps : goal.returns-in_err-y-clause-keeps
-returns-in_err-y-clause-keeps c =
-    phase_keeps _ _ _ c.in_ok-counter.counter c.in_ok-counter.ensures.rst c.in_ok-counter.ensures.keeps (λ n found. (c.in_ok-counter.ensures.again n found).2)
 
 pub returns-clause-belongs : goal.returns-clause-belongs
 returns-clause-belongs c = belongs_grows _ _ _ c.in_ok-y.ensures.adds.grows c.in_ok-counter.ensures.belongs
@@ -50,12 +40,6 @@ returns-clause-held c =
     ap (λ n. n % t) sum in
     rw (← wide, ← phase, ← c.offset-begin.ensures) (c.in_ok-y.ensures.held c.args.clocks.now.rst c.in_ok-counter.ensures.counts)
 
-counter_room : 12 ≤ 16
-counter_room = omega arith
-
-pub returns-in_err-counter-clause-adds : goal.returns-in_err-counter-clause-adds
-returns-in_err-counter-clause-adds c = adds_most 16 counter_room c.in_err-counter.ensures.adds
-
 pub hold-requires-clause-begins : goal.hold-requires-clause-begins
 hold-requires-clause-begins c = rw c.offset-begin.ensures (mod_below _ _ c.requires.lasting)
 
@@ -67,3 +51,6 @@ returns-clause-counted c = record {
   registers = omega (arith, c.in_ok-counter.ensures.registers, c.in_ok-y.ensures.counted.registers);
   tests = omega (arith, c.in_ok-counter.ensures.tests, c.in_ok-y.ensures.counted.tests);
 }
+
+pub hold-requires-clause-room : goal.hold-requires-clause-room
+hold-requires-clause-room c = omega (arith, c.requires.room, c.in_ok-counter.ensures.adds.cells, c.in_ok-counter.ensures.adds.grows.limit)

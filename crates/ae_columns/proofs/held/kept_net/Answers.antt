@@ -3,8 +3,8 @@ use Rattle.std.proofs.Common.{ℕ, ◌≡◌, ◌+◌, ◌%◌, ◌∙◌, Optio
 use Rattle.std.proofs.lemmas.Option.{same_Some}
 use Rattle.ae_netlist.specs.Circuit.{Circuit, IsNet}
 use Rattle.ae_netlist.specs.Runs.{InEveryResetRun}
-use Rattle.ae_clocked.specs.Signals.{Adds}
-use Rattle.ae_clocked.proofs.Adding.{net_added}
+use Rattle.ae_gates.specs.Cells.{Adds}
+use Rattle.ae_gates.proofs.Adding.{net_added}
 use Rattle.ae_columns.specs.Held.{held_phase, Holds, IsHeld, Keeps}
 use Rattle.ae_columns.proofs.Counted.{counted_if}
 use Rattle.ae_columns.proofs.held.kept_net.Goals as goal
@@ -19,9 +19,6 @@ keeps_held a b held most w rst period d arrival k x y is adds net h = record {
       (same_Some k j (sym is ∙ e)) h.words;
 }
 
-pub returns-in_err-y-clause-adds : goal.returns-in_err-y-clause-adds
-returns-in_err-y-clause-adds c = rw c.in-Some.is c.in_err-y.ensures.adds
-
 pub returns-clause-adds : goal.returns-clause-adds
 returns-clause-adds c = rw c.in-Some.is c.in_ok-y.ensures.adds
 
@@ -30,3 +27,6 @@ returns-clause-keeps_word c = keeps_held _ _ _ _ _ _ _ _ _ _ _ _ c.in-Some.is c.
 
 pub returns-clause-counted : goal.returns-clause-counted
 returns-clause-counted c = counted_if _ _ c.in-Some.is c.in_ok-y.ensures.counted
+
+pub held_net-requires-clause-room : goal.held_net-requires-clause-room
+held_net-requires-clause-room c = rw c.in-Some.is at c.requires.room

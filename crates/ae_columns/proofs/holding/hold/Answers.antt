@@ -2,7 +2,7 @@
 use Rattle.std.proofs.Common.{◌≡◌, ◌≤◌, ◌^◌, arith}
 use Rattle.ae_netlist.specs.Circuit.{width_of}
 use Rattle.ae_netlist.proofs.Growing.{net_width}
-use Rattle.ae_clocked.proofs.Added.{own_net}
+use Rattle.ae_gates.proofs.Added.{own_net}
 use Rattle.ae_columns.proofs.Keeping.{held_made}
 use Rattle.ae_columns.proofs.holding.hold.Goals as goal
 
@@ -17,5 +17,5 @@ kept-requires-clause-fits c =
 
 pub returns-clause-held : goal.returns-clause-held
 returns-clause-held c =
-    held_made _ _ c.kept.result c.args.x c.args.counter c.args.width c.args.period c.args.offset c.args.q c.requires.begins c.kept.ensures.adds.grows
-    c.kept.ensures.net c.kept.ensures.words
+    held_made _ _ c.in_ok-y.y c.args.x c.args.counter c.args.width c.args.period c.args.offset c.args.q c.requires.begins c.in_ok-y.ensures.adds.grows
+    c.in_ok-y.ensures.net c.in_ok-y.ensures.words

@@ -1,9 +1,10 @@
 -- The nets of a register that is written in the clocks of one phase, one after another, and what they hold.
-use Rattle.std.proofs.Common.{◌<◌, ◌≤◌, ◌∙◌, length, arith}
+use Rattle.std.proofs.Common.{◌<◌, ◌∙◌, length, arith}
 use Rattle.ae_netlist.specs.Runs.{Carries}
 use Rattle.ae_netlist.proofs.Carried.{carries_later, carries_trans}
-use Rattle.ae_clocked.proofs.Adding.{adds_connect, adds_most, adds_trans, net_added}
-use Rattle.ae_clocked.proofs.Added.{grows_length, back, connect_carries, net_within, net_own, own_register, register_later}
+use Rattle.ae_gates.proofs.Adding.{adds_trans, net_added}
+use Rattle.ae_clocked.proofs.Connecting.{adds_connect, connect_carries, net_own, own_register, register_later}
+use Rattle.ae_gates.proofs.Added.{grows_length, back, net_within}
 use Rattle.ae_columns.proofs.HeldLaw.{kept_is}
 use Rattle.ae_columns.proofs.holding.kept.Goals as goal
 
@@ -51,31 +52,8 @@ returns-clause-words c = λ all k run is t l.
     (c.in_ok-next.ensures.words all closed run is t l0)
     (c.close.ensures.words all (carries_later _ _ (omega (arith, fresh, l1, l2)) k) run is t l)
 
-begin_room : 1 ≤ 4
-begin_room = omega arith
-
-begins_room : 2 ≤ 4
-begins_room = omega arith
-
-register_room : 3 ≤ 4
-register_room = omega arith
-
-pub returns-in_err-begin-clause-adds : goal.returns-in_err-begin-clause-adds
-returns-in_err-begin-clause-adds c = adds_most 4 begin_room c.in_err-begin.ensures.adds
-
-pub returns-in_err-begins-clause-adds : goal.returns-in_err-begins-clause-adds
-returns-in_err-begins-clause-adds c = adds_most 4 begins_room (adds_trans c.in_ok-begin.ensures.adds c.in_err-begins.ensures.adds)
-
-pub returns-in_err-y-clause-adds : goal.returns-in_err-y-clause-adds
-returns-in_err-y-clause-adds c =
-    adds_most 4 register_room (adds_trans (adds_trans c.in_ok-begin.ensures.adds c.in_ok-begins.ensures.adds) c.in_err-y.ensures.adds)
-
-pub returns-in_err-next-clause-adds : goal.returns-in_err-next-clause-adds
-returns-in_err-next-clause-adds c =
-    adds_trans (adds_trans (adds_trans c.in_ok-begin.ensures.adds c.in_ok-begins.ensures.adds) c.in_ok-y.ensures.adds) c.in_err-next.ensures.adds
-
-pub constant-requires : goal.constant-requires
-constant-requires c = rw (c.from.ensures, c.width_at-bits.ensures) c.requires.fits
+pub constant-requires-clause-fits : goal.constant-requires-clause-fits
+constant-requires-clause-fits c = rw (c.from.ensures, c.width_at-bits.ensures) c.requires.fits
 
 pub returns-clause-counted : goal.returns-clause-counted
 returns-clause-counted c = record {
@@ -90,26 +68,29 @@ returns-clause-counted c = record {
   tests = omega (arith, c.in_ok-begin.ensures.tests, c.in_ok-begins.ensures.tests, c.in_ok-y.ensures.tests, c.in_ok-next.ensures.tests, c.close.ensures.tests);
 }
 
-pub returns-in_err-begin-clause-counted : goal.returns-in_err-begin-clause-counted
-returns-in_err-begin-clause-counted c = record {
-  registers = omega (arith, c.in_err-begin.ensures.registers);
-  tests = omega (arith, c.in_err-begin.ensures.tests);
-}
+pub equal-requires-clause-room : goal.equal-requires-clause-room
+equal-requires-clause-room c = omega (arith, c.requires.room, c.in_ok-begin.ensures.adds.cells, c.in_ok-begin.ensures.adds.grows.limit)
 
-pub returns-in_err-begins-clause-counted : goal.returns-in_err-begins-clause-counted
-returns-in_err-begins-clause-counted c = record {
-  registers = omega (arith, c.in_ok-begin.ensures.registers, c.in_err-begins.ensures.registers);
-  tests = omega (arith, c.in_ok-begin.ensures.tests, c.in_err-begins.ensures.tests);
-}
+pub register-requires : goal.register-requires
+register-requires c =
+    omega (
+      arith,
+      c.requires.room,
+      c.in_ok-begin.ensures.adds.cells,
+      c.in_ok-begin.ensures.adds.grows.limit,
+      c.in_ok-begins.ensures.adds.cells,
+      c.in_ok-begins.ensures.adds.grows.limit,
+    )
 
-pub returns-in_err-y-clause-counted : goal.returns-in_err-y-clause-counted
-returns-in_err-y-clause-counted c = record {
-  registers = omega (arith, c.in_ok-begin.ensures.registers, c.in_ok-begins.ensures.registers, c.in_err-y.ensures.registers);
-  tests = omega (arith, c.in_ok-begin.ensures.tests, c.in_ok-begins.ensures.tests, c.in_err-y.ensures.tests);
-}
-
-pub returns-in_err-next-clause-counted : goal.returns-in_err-next-clause-counted
-returns-in_err-next-clause-counted c = record {
-  registers = omega (arith, c.in_ok-begin.ensures.registers, c.in_ok-begins.ensures.registers, c.in_ok-y.ensures.registers, c.in_err-next.ensures.registers);
-  tests = omega (arith, c.in_ok-begin.ensures.tests, c.in_ok-begins.ensures.tests, c.in_ok-y.ensures.tests, c.in_err-next.ensures.tests);
-}
+pub choose-requires-clause-room : goal.choose-requires-clause-room
+choose-requires-clause-room c =
+    omega (
+      arith,
+      c.requires.room,
+      c.in_ok-begin.ensures.adds.cells,
+      c.in_ok-begin.ensures.adds.grows.limit,
+      c.in_ok-begins.ensures.adds.cells,
+      c.in_ok-begins.ensures.adds.grows.limit,
+      c.in_ok-y.ensures.adds.cells,
+      c.in_ok-y.ensures.adds.grows.limit,
+    )

@@ -1,6 +1,6 @@
 -- One counter or two.
 use Rattle.std.proofs.Common.{ℕ, ◌*◌, min, ◌≡◌, ◌+◌, ◌-◌, ◌%◌, ◌≤◌, false, length, arith, rules, ap, ◌∙◌}
-use Rattle.ae_clocked.proofs.Adding.{adds_most, adds_trans}
+use Rattle.ae_gates.proofs.Adding.{adds_most, adds_trans}
 use Rattle.ae_columns.specs.Columns.{IsPhaseNet}
 use Rattle.ae_columns.specs.Early.{is_early}
 use Rattle.ae_columns.proofs.Choosing.{phase_grows}
@@ -10,38 +10,17 @@ use Rattle.ae_columns.proofs.Counted.{counted_trans}
 use Rattle.ae_columns.proofs.phases.counters.Goals as goal
 use Rattle.ae_clocked.proofs.InRow.{keeps_trans}
 
-pub returns-in_err-only-clause-belongs : goal.returns-in_err-only-clause-belongs
-returns-in_err-only-clause-belongs c = c.in_err-only.ensures.belongs
-
-pub returns-in_err-only-clause-keeps : goal.returns-in_err-only-clause-keeps
-returns-in_err-only-clause-keeps c = c.in_err-only.ensures.keeps
-
 pub returns-then-not-has-clause-belongs : goal.returns-then-not-has-clause-belongs
 returns-then-not-has-clause-belongs c = c.in_ok-only.ensures.belongs
 
 pub returns-then-not-has-clause-keeps : goal.returns-then-not-has-clause-keeps
 returns-then-not-has-clause-keeps c = c.in_ok-only.ensures.keeps
 
-pub returns-in_err-only-2-clause-belongs : goal.returns-in_err-only-2-clause-belongs
-returns-in_err-only-2-clause-belongs c = c.in_err-only-2.ensures.belongs
-
-pub returns-in_err-only-2-clause-keeps : goal.returns-in_err-only-2-clause-keeps
-returns-in_err-only-2-clause-keeps c = c.in_err-only-2.ensures.keeps
-
 pub returns-then-not-has-2-clause-belongs : goal.returns-then-not-has-2-clause-belongs
 returns-then-not-has-2-clause-belongs c = c.in_ok-only-2.ensures.belongs
 
 pub returns-then-not-has-2-clause-keeps : goal.returns-then-not-has-2-clause-keeps
 returns-then-not-has-2-clause-keeps c = c.in_ok-only-2.ensures.keeps
-
-pub returns-in_err-later-clause-belongs : goal.returns-in_err-later-clause-belongs
-returns-in_err-later-clause-belongs c = c.in_err-later.ensures.belongs
-
-pub returns-in_err-later-clause-keeps : goal.returns-in_err-later-clause-keeps
-returns-in_err-later-clause-keeps c = c.in_err-later.ensures.keeps
-
-pub returns-in_err-sooner-clause-belongs : goal.returns-in_err-sooner-clause-belongs
-returns-in_err-sooner-clause-belongs c = c.in_err-sooner.ensures.belongs
 
 pub returns-clause-belongs : goal.returns-clause-belongs
 returns-clause-belongs c = c.in_ok-sooner.ensures.belongs
@@ -58,16 +37,6 @@ returns-then-not-has-2-clause-counters c = λ q l.
     has_sooner _ _ _ _ _ _ (is_early c.args.early.now q) (all_true c.args.early.now (c.has-2.ensures.none off) q l) c.in_ok-only-2.ensures.counts
     c.in_ok-only-2.ensures.periodic c.in_ok-only-2.ensures.limits
     (c.in_ok-only-2.ensures.offsets ∙ c.offset-ahead.ensures ∙ ap (λ n. (n + (c.args.period - 1)) % c.args.period) c.offset-begin.ensures)
-
-pub returns-in_err-sooner-clause-keeps : goal.returns-in_err-sooner-clause-keeps
-returns-in_err-sooner-clause-keeps c = keeps_trans c.in_ok-later.ensures.keeps c.in_err-sooner.ensures.keeps
-
-pub returns-in_err-sooner-clause-adds : goal.returns-in_err-sooner-clause-adds
-returns-in_err-sooner-clause-adds c =
-    let p = c.has.ensures.found (search rules) in
-    let q = c.has-2.ensures.found (search rules) in
-    let two : 2 ≤ length c.args.early.now = two_flags c.args.early.now p.0 q.0 p.1 q.1 in
-    adds_most _ (omega arith) (adds_trans c.in_ok-later.ensures.adds c.in_err-sooner.ensures.adds)
 
 pub returns-clause-keeps : goal.returns-clause-keeps
 returns-clause-keeps c = keeps_trans c.in_ok-later.ensures.keeps c.in_ok-sooner.ensures.keeps
@@ -93,20 +62,11 @@ returns-clause-counters c = λ q l.
 one_room : (n : ℕ) → 1 ≤ n → 12 ≤ 12 * min 2 n
 one_room n h = omega arith
 
-pub returns-in_err-only-clause-adds : goal.returns-in_err-only-clause-adds
-returns-in_err-only-clause-adds c = adds_most _ (one_room _ c.requires.some) c.in_err-only.ensures.adds
-
 pub returns-then-not-has-clause-adds : goal.returns-then-not-has-clause-adds
 returns-then-not-has-clause-adds c = adds_most _ (one_room _ c.requires.some) c.in_ok-only.ensures.adds
 
-pub returns-in_err-only-2-clause-adds : goal.returns-in_err-only-2-clause-adds
-returns-in_err-only-2-clause-adds c = adds_most _ (one_room _ c.requires.some) c.in_err-only-2.ensures.adds
-
 pub returns-then-not-has-2-clause-adds : goal.returns-then-not-has-2-clause-adds
 returns-then-not-has-2-clause-adds c = adds_most _ (one_room _ c.requires.some) c.in_ok-only-2.ensures.adds
-
-pub returns-in_err-later-clause-adds : goal.returns-in_err-later-clause-adds
-returns-in_err-later-clause-adds c = adds_most _ (one_room _ c.requires.some) c.in_err-later.ensures.adds
 
 pub returns-then-not-has-clause-counted : goal.returns-then-not-has-clause-counted
 returns-then-not-has-clause-counted c = c.in_ok-only.ensures.counted
@@ -116,3 +76,16 @@ returns-then-not-has-2-clause-counted c = c.in_ok-only-2.ensures.counted
 
 pub returns-clause-counted : goal.returns-clause-counted
 returns-clause-counted c = counted_trans c.in_ok-later.ensures.counted c.in_ok-sooner.ensures.counted
+
+pub counting-requires-clause-room : goal.counting-requires-clause-room
+counting-requires-clause-room c = omega (arith, c.requires.room, one_room _ c.requires.some)
+
+pub counting-requires-2-clause-room : goal.counting-requires-2-clause-room
+counting-requires-2-clause-room c = omega (arith, c.requires.room, one_room _ c.requires.some)
+
+pub counting-requires-3-clause-room : goal.counting-requires-3-clause-room
+counting-requires-3-clause-room c =
+    let p = c.has.ensures.found (search rules) in
+    let q = c.has-2.ensures.found (search rules) in
+    let two : 2 ≤ length c.args.early.now = two_flags c.args.early.now p.0 q.0 p.1 q.1 in
+    omega (arith, c.requires.room, c.in_ok-later.ensures.adds.cells, c.in_ok-later.ensures.adds.grows.limit, two)

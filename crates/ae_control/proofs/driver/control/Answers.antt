@@ -1,5 +1,4 @@
 -- All cells of the control, one call after another.
-use Rattle.std.proofs.lemmas.Result.{err_from_is_err_and}
 use Rattle.std.proofs.Common.{ℕ, ◌≡◌, ◌+◌, length, subst, ap, sym, arith}
 use Rattle.ae_netlist.specs.Circuit.{Circuit}
 use Rattle.ae_netlist.proofs.Growing.{net_later}
@@ -17,180 +16,164 @@ any_bits old begun grown blocks wait base busy is begin h =
 
 pub any_of-requires-clause-bits : goal.any_of-requires-clause-bits
 any_of-requires-clause-bits c =
-    λ k l. own_at c.args.nl.now c.begin.new.nl c.args.blocks c.in_ok-begin.ensures.begun _ (5 + k) (omega (arith, c.len-base.ensures))
+    λ k l. own_at c.args.nl.now c.begin.new.nl c.args.blocks c.in_ok-begin.ensures _ (5 + k) (omega (arith, c.len-base.ensures))
     (omega (arith, c.requires.waits))
 
 pub any_of-requires-clause-low : goal.any_of-requires-clause-low
 any_of-requires-clause-low c =
-    own_at c.args.nl.now c.begin.new.nl c.args.blocks c.in_ok-begin.ensures.begun _ 0 (omega (arith, c.len-base.ensures)) (omega arith)
+    own_at c.args.nl.now c.begin.new.nl c.args.blocks c.in_ok-begin.ensures _ 0 (omega (arith, c.len-base.ensures)) (omega arith)
 
 pub any_of-requires-clause-high : goal.any_of-requires-clause-high
 any_of-requires-clause-high c =
-    own_at c.args.nl.now c.begin.new.nl c.args.blocks c.in_ok-begin.ensures.begun _ 1 (omega (arith, c.len-base.ensures)) (omega arith)
+    own_at c.args.nl.now c.begin.new.nl c.args.blocks c.in_ok-begin.ensures _ 1 (omega (arith, c.len-base.ensures)) (omega arith)
 
 pub gates-requires-clause-many : goal.gates-requires-clause-many
 gates-requires-clause-many c =
-    omega (arith, c.formed-2.ensures.limit, c.in_ok-busy.ensures.longer.limit, c.in_ok-begin.ensures.begun.longer.limit, c.len-g.ensures, c.requires.many)
+    omega (arith, c.formed-2.ensures.limit, c.in_ok-busy.ensures.longer.limit, c.in_ok-begin.ensures.longer.limit, c.len-g.ensures, c.requires.many)
 
 pub gates-requires-clause-blocks : goal.gates-requires-clause-blocks
-gates-requires-clause-blocks c = omega (arith, c.in_ok-begin.ensures.begun.long, longer_length c.in_ok-busy.ensures.longer, c.len-base.ensures, c.len-g.ensures)
+gates-requires-clause-blocks c = omega (arith, c.in_ok-begin.ensures.long, longer_length c.in_ok-busy.ensures.longer, c.len-base.ensures, c.len-g.ensures)
 
 pub gates-requires-clause-bits : goal.gates-requires-clause-bits
 gates-requires-clause-bits c =
-    let first = c.in_ok-begin.ensures.begun.longer.extends in
+    let first = c.in_ok-begin.ensures.longer.extends in
     let second = c.in_ok-busy.ensures.longer.extends in
     record {
       wires = wires_later c.begin.new.nl.cells c.any_of.new.nl.cells c.args.w second
           (wires_later c.args.nl.now.cells c.begin.new.nl.cells c.args.w first c.requires.nets);
-      own = λ k l. net_later second (own_at c.args.nl.now c.begin.new.nl c.args.blocks c.in_ok-begin.ensures.begun _ k (omega (arith, c.len-base.ensures)) l);
+      own = λ k l. net_later second (own_at c.args.nl.now c.begin.new.nl c.args.blocks c.in_ok-begin.ensures _ k (omega (arith, c.len-base.ensures)) l);
       any = c.in_ok-busy.ensures.net;
     }
 
 pub flag_gates-requires-clause-many : goal.flag_gates-requires-clause-many
 flag_gates-requires-clause-many c =
-    omega (arith, c.formed-2.ensures.limit, c.in_ok-busy.ensures.longer.limit, c.in_ok-begin.ensures.begun.longer.limit, c.len-g.ensures, c.requires.many)
+    omega (arith, c.formed-2.ensures.limit, c.in_ok-busy.ensures.longer.limit, c.in_ok-begin.ensures.longer.limit, c.len-g.ensures, c.requires.many)
 
 pub flag_gates-requires-clause-blocks : goal.flag_gates-requires-clause-blocks
 flag_gates-requires-clause-blocks c =
-    omega (arith, c.in_ok-begin.ensures.begun.long, longer_length c.in_ok-busy.ensures.longer, c.len-base.ensures, c.len-g.ensures)
+    omega (arith, c.in_ok-begin.ensures.long, longer_length c.in_ok-busy.ensures.longer, c.len-base.ensures, c.len-g.ensures)
 
 pub flag_gates-requires-clause-here : goal.flag_gates-requires-clause-here
 flag_gates-requires-clause-here c =
     sym (gates_long c.args.nl.now c.begin.new.nl c.any_of.new.nl c.gates.new.nl c.gates.new.nl c.args.w
-    (record { base = c.len-base.result; blocks = c.args.blocks; gates = c.len-g.result }) c.in_ok-busy.busy c.in_ok-begin.ensures.begun
+    (record { base = c.len-base.result; blocks = c.args.blocks; gates = c.len-g.result }) c.in_ok-busy.busy c.in_ok-begin.ensures
     c.in_ok-busy.ensures.longer c.len-base.ensures c.len-g.ensures
-    (omega (arith, c.in_ok-begin.ensures.begun.long, longer_length c.in_ok-busy.ensures.longer, c.len-base.ensures, c.len-g.ensures))
-    c.in_ok-gates.ensures.added)
+    (omega (arith, c.in_ok-begin.ensures.long, longer_length c.in_ok-busy.ensures.longer, c.len-base.ensures, c.len-g.ensures))
+    c.in_ok-gates.ensures)
 
 pub flag_gates-requires-clause-reset : goal.flag_gates-requires-clause-reset
 flag_gates-requires-clause-reset c =
     net_later (longer3 c.args.nl.now c.begin.new.nl c.any_of.new.nl c.gates.new.nl c.gates.new.nl c.args.w
-    (record { base = c.len-base.result; blocks = c.args.blocks; gates = c.len-g.result }) c.in_ok-busy.busy c.in_ok-begin.ensures.begun
+    (record { base = c.len-base.result; blocks = c.args.blocks; gates = c.len-g.result }) c.in_ok-busy.busy c.in_ok-begin.ensures
     c.in_ok-busy.ensures.longer c.len-base.ensures c.len-g.ensures
-    (omega (arith, c.in_ok-begin.ensures.begun.long, longer_length c.in_ok-busy.ensures.longer, c.len-base.ensures, c.len-g.ensures))
-    c.in_ok-gates.ensures.added).extends
-    (net_later c.in_ok-busy.ensures.longer.extends (net_later c.in_ok-begin.ensures.begun.longer.extends c.requires.nets.reset))
+    (omega (arith, c.in_ok-begin.ensures.long, longer_length c.in_ok-busy.ensures.longer, c.len-base.ensures, c.len-g.ensures))
+    c.in_ok-gates.ensures).extends
+    (net_later c.in_ok-busy.ensures.longer.extends (net_later c.in_ok-begin.ensures.longer.extends c.requires.nets.reset))
 
 pub flag_gates-requires-clause-own : goal.flag_gates-requires-clause-own
 flag_gates-requires-clause-own c = λ k l.
     net_later (longer3 c.args.nl.now c.begin.new.nl c.any_of.new.nl c.gates.new.nl c.gates.new.nl c.args.w
-    (record { base = c.len-base.result; blocks = c.args.blocks; gates = c.len-g.result }) c.in_ok-busy.busy c.in_ok-begin.ensures.begun
+    (record { base = c.len-base.result; blocks = c.args.blocks; gates = c.len-g.result }) c.in_ok-busy.busy c.in_ok-begin.ensures
     c.in_ok-busy.ensures.longer c.len-base.ensures c.len-g.ensures
-    (omega (arith, c.in_ok-begin.ensures.begun.long, longer_length c.in_ok-busy.ensures.longer, c.len-base.ensures, c.len-g.ensures))
-    c.in_ok-gates.ensures.added).extends
-    (net_later c.in_ok-busy.ensures.longer.extends (own_at c.args.nl.now c.begin.new.nl c.args.blocks c.in_ok-begin.ensures.begun _ k
+    (omega (arith, c.in_ok-begin.ensures.long, longer_length c.in_ok-busy.ensures.longer, c.len-base.ensures, c.len-g.ensures))
+    c.in_ok-gates.ensures).extends
+    (net_later c.in_ok-busy.ensures.longer.extends (own_at c.args.nl.now c.begin.new.nl c.args.blocks c.in_ok-begin.ensures _ k
     (omega (arith, c.len-base.ensures)) l))
 
 pub flag_gates-requires-clause-gates : goal.flag_gates-requires-clause-gates
 flag_gates-requires-clause-gates c =
     λ k l. gate_net c.args.nl.now c.begin.new.nl c.any_of.new.nl c.gates.new.nl c.gates.new.nl c.args.w
-    (record { base = c.len-base.result; blocks = c.args.blocks; gates = c.len-g.result }) c.in_ok-busy.busy c.in_ok-begin.ensures.begun
+    (record { base = c.len-base.result; blocks = c.args.blocks; gates = c.len-g.result }) c.in_ok-busy.busy c.in_ok-begin.ensures
     c.in_ok-busy.ensures.longer c.len-base.ensures c.len-g.ensures
-    (omega (arith, c.in_ok-begin.ensures.begun.long, longer_length c.in_ok-busy.ensures.longer, c.len-base.ensures, c.len-g.ensures))
-    c.in_ok-gates.ensures.added k l
+    (omega (arith, c.in_ok-begin.ensures.long, longer_length c.in_ok-busy.ensures.longer, c.len-base.ensures, c.len-g.ensures))
+    c.in_ok-gates.ensures k l
 
 pub connect_all-requires : goal.connect_all-requires
 connect_all-requires c =
     record {
       can = can_connect c.args.nl.now c.begin.new.nl c.any_of.new.nl c.gates.new.nl c.flag_gates.new.nl c.args.w
-          (record { base = c.len-base.result; blocks = c.args.blocks; gates = c.len-g.result }) c.in_ok-busy.busy c.in_ok-begin.ensures.begun
+          (record { base = c.len-base.result; blocks = c.args.blocks; gates = c.len-g.result }) c.in_ok-busy.busy c.in_ok-begin.ensures
           c.in_ok-busy.ensures.longer c.len-base.ensures c.len-g.ensures
-          (omega (arith, c.in_ok-begin.ensures.begun.long, longer_length c.in_ok-busy.ensures.longer, c.len-base.ensures, c.len-g.ensures))
-          c.in_ok-gates.ensures.added c.in_ok-flag_gates.ensures.flags;
+          (omega (arith, c.in_ok-begin.ensures.long, longer_length c.in_ok-busy.ensures.longer, c.len-base.ensures, c.len-g.ensures))
+          c.in_ok-gates.ensures c.in_ok-flag_gates.ensures;
     }
 
 pub returns-clause-few : goal.returns-clause-few
 returns-clause-few c =
     let long = gates_long c.args.nl.now c.begin.new.nl c.any_of.new.nl c.gates.new.nl c.gates.new.nl c.args.w
-    (record { base = c.len-base.result; blocks = c.args.blocks; gates = c.len-g.result }) c.in_ok-busy.busy c.in_ok-begin.ensures.begun
+    (record { base = c.len-base.result; blocks = c.args.blocks; gates = c.len-g.result }) c.in_ok-busy.busy c.in_ok-begin.ensures
     c.in_ok-busy.ensures.longer c.len-base.ensures c.len-g.ensures
-    (omega (arith, c.in_ok-begin.ensures.begun.long, longer_length c.in_ok-busy.ensures.longer, c.len-base.ensures, c.len-g.ensures))
-    c.in_ok-gates.ensures.added in
+    (omega (arith, c.in_ok-begin.ensures.long, longer_length c.in_ok-busy.ensures.longer, c.len-base.ensures, c.len-g.ensures))
+    c.in_ok-gates.ensures in
     omega (
       arith,
       c.connect_all.ensures.long,
-      c.in_ok-flag_gates.ensures.flags.long,
+      c.in_ok-flag_gates.ensures.long,
       long,
       c.len-g.ensures,
       c.in_ok-busy.ensures.long,
-      c.in_ok-begin.ensures.begun.long,
+      c.in_ok-begin.ensures.long,
       c.requires.waits,
     )
 
 pub returns-clause-longer : goal.returns-clause-longer
 returns-clause-longer c =
     all_longer c.args.nl.now c.begin.new.nl c.any_of.new.nl c.gates.new.nl c.flag_gates.new.nl c.args.w
-    (record { base = c.len-base.result; blocks = c.args.blocks; gates = c.len-g.result }) c.in_ok-busy.busy c.in_ok-begin.ensures.begun
+    (record { base = c.len-base.result; blocks = c.args.blocks; gates = c.len-g.result }) c.in_ok-busy.busy c.in_ok-begin.ensures
     c.in_ok-busy.ensures.longer c.len-base.ensures c.len-g.ensures
-    (omega (arith, c.in_ok-begin.ensures.begun.long, longer_length c.in_ok-busy.ensures.longer, c.len-base.ensures, c.len-g.ensures))
-    c.in_ok-gates.ensures.added c.in_ok-flag_gates.ensures.flags c.connect_all.new.nl c.connect_all.ensures
+    (omega (arith, c.in_ok-begin.ensures.long, longer_length c.in_ok-busy.ensures.longer, c.len-base.ensures, c.len-g.ensures))
+    c.in_ok-gates.ensures c.in_ok-flag_gates.ensures c.connect_all.new.nl c.connect_all.ensures
 
 pub returns-clause-control : goal.returns-clause-control
 returns-clause-control c =
     controls c.args.nl.now c.begin.new.nl c.any_of.new.nl c.gates.new.nl c.flag_gates.new.nl c.args.w
-    (record { base = c.len-base.result; blocks = c.args.blocks; gates = c.len-g.result }) c.in_ok-busy.busy c.in_ok-begin.ensures.begun
+    (record { base = c.len-base.result; blocks = c.args.blocks; gates = c.len-g.result }) c.in_ok-busy.busy c.in_ok-begin.ensures
     c.in_ok-busy.ensures.longer c.len-base.ensures c.len-g.ensures
-    (omega (arith, c.in_ok-begin.ensures.begun.long, longer_length c.in_ok-busy.ensures.longer, c.len-base.ensures, c.len-g.ensures))
-    c.in_ok-gates.ensures.added c.in_ok-flag_gates.ensures.flags c.connect_all.new.nl c.connect_all.ensures
+    (omega (arith, c.in_ok-begin.ensures.long, longer_length c.in_ok-busy.ensures.longer, c.len-base.ensures, c.len-g.ensures))
+    c.in_ok-gates.ensures c.in_ok-flag_gates.ensures c.connect_all.new.nl c.connect_all.ensures
     c.args.wait (any_bits c.args.nl.now c.begin.new.nl c.any_of.new.nl c.args.blocks c.args.wait c.len-base.result c.in_ok-busy.busy.0 c.len-base.ensures
-    c.in_ok-begin.ensures.begun c.in_ok-busy.ensures.any)
+    c.in_ok-begin.ensures c.in_ok-busy.ensures.any)
 
 pub returns-clause-nets : goal.returns-clause-nets
 returns-clause-nets c =
     control_nets c.args.nl.now c.begin.new.nl c.any_of.new.nl c.gates.new.nl c.flag_gates.new.nl c.args.w
-    (record { base = c.len-base.result; blocks = c.args.blocks; gates = c.len-g.result }) c.in_ok-busy.busy c.in_ok-begin.ensures.begun
+    (record { base = c.len-base.result; blocks = c.args.blocks; gates = c.len-g.result }) c.in_ok-busy.busy c.in_ok-begin.ensures
     c.in_ok-busy.ensures.longer c.len-base.ensures c.len-g.ensures
-    (omega (arith, c.in_ok-begin.ensures.begun.long, longer_length c.in_ok-busy.ensures.longer, c.len-base.ensures, c.len-g.ensures))
-    c.in_ok-gates.ensures.added c.in_ok-flag_gates.ensures.flags c.connect_all.new.nl c.connect_all.ensures
+    (omega (arith, c.in_ok-begin.ensures.long, longer_length c.in_ok-busy.ensures.longer, c.len-base.ensures, c.len-g.ensures))
+    c.in_ok-gates.ensures c.in_ok-flag_gates.ensures c.connect_all.new.nl c.connect_all.ensures
 
-pub returns-in_err-begin-clause-full : goal.returns-in_err-begin-clause-full
-returns-in_err-begin-clause-full c =
-    let p = err_from_is_err_and c.from_residual.result c.from_residual.ensures.1 in
-    rw (p.1, p.2) (λ e. omega (arith, c.in_err-begin.ensures.full e))
+pub any_of-requires-clause-room : goal.any_of-requires-clause-room
+any_of-requires-clause-room c =
+    omega (arith, c.requires.room, c.in_ok-begin.ensures.longer.limit, c.in_ok-begin.ensures.long, c.requires.waits)
 
-pub returns-in_err-busy-clause-full : goal.returns-in_err-busy-clause-full
-returns-in_err-busy-clause-full c =
-    let p = err_from_is_err_and c.from_residual-in_err-busy.result c.from_residual-in_err-busy.ensures.1 in
-    rw (p.1, p.2) (λ e. omega (
-      arith,
-      c.in_err-busy.ensures.full e,
-      c.in_ok-begin.ensures.begun.longer.limit,
-      c.in_ok-begin.ensures.begun.long,
-      c.requires.waits,
-    ))
+pub gates-requires-clause-room : goal.gates-requires-clause-room
+gates-requires-clause-room c = omega (
+  arith,
+  c.requires.room,
+  c.in_ok-busy.ensures.longer.limit,
+  c.in_ok-busy.ensures.long,
+  c.in_ok-begin.ensures.longer.limit,
+  c.in_ok-begin.ensures.long,
+  c.requires.waits,
+)
 
-pub returns-in_err-gates-clause-full : goal.returns-in_err-gates-clause-full
-returns-in_err-gates-clause-full c =
-    let p = err_from_is_err_and c.from_residual-in_err-gates.result c.from_residual-in_err-gates.ensures.1 in
-    rw (p.1, p.2) (λ e. omega (
-      arith,
-      c.in_err-gates.ensures.full e,
-      c.in_ok-busy.ensures.longer.limit,
-      c.in_ok-busy.ensures.long,
-      c.in_ok-begin.ensures.begun.longer.limit,
-      c.in_ok-begin.ensures.begun.long,
-      c.requires.waits,
-    ))
-
-pub returns-in_err-flag_gates-clause-full : goal.returns-in_err-flag_gates-clause-full
-returns-in_err-flag_gates-clause-full c =
-    let p = err_from_is_err_and c.from_residual-in_err-flag_gates.result c.from_residual-in_err-flag_gates.ensures.1 in
-    rw (p.1, p.2) (λ e.
+pub flag_gates-requires-clause-room : goal.flag_gates-requires-clause-room
+flag_gates-requires-clause-room c =
     let long = gates_long c.args.nl.now c.begin.new.nl c.any_of.new.nl c.gates.new.nl c.gates.new.nl c.args.w
-    (record { base = c.len-base.result; blocks = c.args.blocks; gates = c.len-g.result }) c.in_ok-busy.busy c.in_ok-begin.ensures.begun
+    (record { base = c.len-base.result; blocks = c.args.blocks; gates = c.len-g.result }) c.in_ok-busy.busy c.in_ok-begin.ensures
     c.in_ok-busy.ensures.longer c.len-base.ensures c.len-g.ensures
-    (omega (arith, c.in_ok-begin.ensures.begun.long, longer_length c.in_ok-busy.ensures.longer, c.len-base.ensures, c.len-g.ensures))
-    c.in_ok-gates.ensures.added in
-    let limit : c.gates.new.nl.limit ≡ c.any_of.new.nl.limit = ap (λ (v : Circuit). v.limit) c.in_ok-gates.ensures.added in
+    (omega (arith, c.in_ok-begin.ensures.long, longer_length c.in_ok-busy.ensures.longer, c.len-base.ensures, c.len-g.ensures))
+    c.in_ok-gates.ensures in
+    let limit : c.gates.new.nl.limit ≡ c.any_of.new.nl.limit = ap (λ (v : Circuit). v.limit) c.in_ok-gates.ensures in
     omega (
       arith,
-      c.in_err-flag_gates.ensures.full e,
+      c.requires.room,
       limit,
       long,
       c.len-g.ensures,
       c.in_ok-busy.ensures.longer.limit,
       c.in_ok-busy.ensures.long,
-      c.in_ok-begin.ensures.begun.longer.limit,
-      c.in_ok-begin.ensures.begun.long,
+      c.in_ok-begin.ensures.longer.limit,
+      c.in_ok-begin.ensures.long,
       c.requires.waits,
-    ))
+    )

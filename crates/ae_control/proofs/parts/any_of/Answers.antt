@@ -1,5 +1,4 @@
 -- One bit more.
-use Rattle.std.proofs.lemmas.Result.{err_from_is_err_and}
 use Rattle.std.proofs.Common.{◌≡◌, ◌+◌, ◌∷◌, [], length, length-append, arith, inl, ap, refl, sym, ◌∙◌, subst}
 use Rattle.ae_netlist.specs.declared.cell.SizedCell.{SizedCell}
 use Rattle.ae_netlist.specs.Circuit.{Circuit}
@@ -11,7 +10,7 @@ use Rattle.ae_control.proofs.Standing.{any_more, any_none}
 use Rattle.ae_control.proofs.Tables.{fit}
 use Rattle.ae_control.proofs.Tables.Fit.{before, none}
 use Rattle.ae_control.proofs.parts.any_of.Goals as goal
-use Rattle.ae_clocked.proofs.Added.{net_within}
+use Rattle.ae_gates.proofs.Added.{net_within}
 
 pub loop-k-init : goal.loop-k-init
 loop-k-init c = record {
@@ -24,8 +23,8 @@ loop-k-init c = record {
 pub overflow_add-first : goal.overflow_add-first
 overflow_add-first c = omega (arith, net_within (c.requires.bits c.loop-k.k c.loop-k-test.true), longer_length c.loop-k.invariant.longer)
 
-pub choices-requires : goal.choices-requires
-choices-requires c =
+pub choices-requires-clause-choices : goal.choices-requires-clause-choices
+choices-requires-clause-choices c =
     let later = c.loop-k.invariant.longer.extends in
     fit c.loop-k.nl.cells 1 _ (before (record {
       condition = inl (net_later later (c.requires.bits c.loop-k.k c.loop-k-test.true));
@@ -37,14 +36,14 @@ pub loop-k-preserved : goal.loop-k-preserved
 loop-k-preserved c =
     let x : SizedCell = choice 1 (row (c.args.first + c.loop-k.k) c.args.high.0 c.loop-k.any.0) in
     record {
-      longer = longer_trans c.loop-k.invariant.longer (longer_by c.loop-k.nl c.choices.new.nl _ c.in_ok-choices.ensures.added (refl, tt));
-      net = last_choice c.loop-k.nl c.choices.new.nl 1 _ _ c.len-at.ensures c.in_ok-choices.ensures.added;
-      long = ap (λ (v : Circuit). length v.cells) c.in_ok-choices.ensures.added ∙
+      longer = longer_trans c.loop-k.invariant.longer (longer_by c.loop-k.nl c.choices.new.nl _ c.in_ok-choices.ensures (refl, tt));
+      net = last_choice c.loop-k.nl c.choices.new.nl 1 _ _ c.len-at.ensures c.in_ok-choices.ensures;
+      long = ap (λ (v : Circuit). length v.cells) c.in_ok-choices.ensures ∙
           (length-append c.loop-k.nl.cells (x ∷ []) ∙ omega (arith, c.loop-k.invariant.long));
       any = subst (HasAny c.choices.new.nl.cells c.args.first (c.loop-k.k + 1) c.args.low.0 c.args.high.0 (length c.args.nl.now.cells))
           (sym (c.len-at.ensures ∙ c.loop-k.invariant.long))
           (any_more c.loop-k.nl c.choices.new.nl c.args.first c.loop-k.k c.args.low.0 c.args.high.0
-          (length c.args.nl.now.cells) c.loop-k.any.0 c.loop-k.invariant.any c.loop-k.invariant.long c.in_ok-choices.ensures.added);
+          (length c.args.nl.now.cells) c.loop-k.any.0 c.loop-k.invariant.any c.loop-k.invariant.long c.in_ok-choices.ensures);
     }
 
 pub returns-clause-any : goal.returns-clause-any
@@ -52,7 +51,5 @@ returns-clause-any c =
     let end : c.loop-k.k ≡ c.args.count = omega (arith, c.loop-k-test.false, c.loop-k.auto.k-end) in
     subst (λ k. HasAny c.loop-k.nl.cells c.args.first k c.args.low.0 c.args.high.0 (length c.args.nl.now.cells) c.loop-k.any.0) end c.loop-k.invariant.any
 
-pub returns-in_err-choices-clause-full : goal.returns-in_err-choices-clause-full
-returns-in_err-choices-clause-full c =
-    let p = err_from_is_err_and c.from_residual.result c.from_residual.ensures.1 in
-    rw (p.1, p.2) (λ e. omega (arith, c.in_err-choices.ensures.full e, c.loop-k.invariant.long, c.loop-k.invariant.longer.limit, c.loop-k-test.true))
+pub choices-requires-clause-room : goal.choices-requires-clause-room
+choices-requires-clause-room c = omega (arith, c.requires.room, c.loop-k.invariant.long, c.loop-k.invariant.longer.limit, c.loop-k-test.true)

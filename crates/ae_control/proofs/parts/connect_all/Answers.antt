@@ -3,7 +3,8 @@ use Rattle.std.proofs.Common.{◌+◌, arith}
 use Rattle.std.proofs.lemmas.Option.{slice_get_within}
 use Rattle.ae_control.proofs.Cells.{connected_none, connected_more, still_register}
 use Rattle.ae_control.proofs.parts.connect_all.Goals as goal
-use Rattle.ae_clocked.proofs.Added.{register_width, own_register, net_own, net_within}
+use Rattle.ae_gates.proofs.Added.{net_within}
+use Rattle.ae_clocked.proofs.Connecting.{register_width, own_register, net_own}
 
 pub loop-k-init : goal.loop-k-init
 loop-k-init c = connected_none c.args.nl.now c.args.first c.args.next

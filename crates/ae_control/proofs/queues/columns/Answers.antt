@@ -1,12 +1,11 @@
 -- One queue more in each turn.
-use Rattle.std.proofs.lemmas.Result.{err_from_is_err_and}
 use Rattle.std.proofs.Common.{◌≡◌, length, arith}
 use Rattle.ae_netlist.proofs.Growing.{net_later}
 use Rattle.ae_control.specs.Controls.{net}
 use Rattle.ae_control.proofs.Cells.{found_at}
 use Rattle.ae_control.proofs.Queued.{all_columns, some_more, some_none}
 use Rattle.ae_control.proofs.queues.columns.Goals as goal
-use Rattle.ae_clocked.proofs.Added.{own_net as own_width}
+use Rattle.ae_gates.proofs.Added.{own_net as own_width}
 
 pub loop-k-init : goal.loop-k-init
 loop-k-init c = some_none c.args.nl.now c.args.c c.args.made.now
@@ -25,12 +24,10 @@ returns-clause-columns c =
     let end : c.loop-k.k ≡ length c.args.made.now = omega (arith, c.loop-k-test.false, c.loop-k.auto.k-end) in
     all_columns c.args.nl.now c.loop-k.nl c.args.c c.args.made.now (rw end at c.loop-k.invariant)
 
-pub returns-in_err-column-clause-full : goal.returns-in_err-column-clause-full
-returns-in_err-column-clause-full c =
-    let p = err_from_is_err_and c.from_residual.result c.from_residual.ensures.1 in
-    rw (p.1, p.2) (λ e. omega (arith, c.in_err-column.ensures.full e, c.loop-k.invariant.long, c.loop-k.invariant.longer.limit, c.loop-k-test.true))
-
 pub returns-clause-long : goal.returns-clause-long
 returns-clause-long c =
     let end : c.loop-k.k ≡ length c.args.made.now = omega (arith, c.loop-k-test.false, c.loop-k.auto.k-end) in
     omega (arith, c.loop-k.invariant.long, end)
+
+pub column-requires-clause-room : goal.column-requires-clause-room
+column-requires-clause-room c = omega (arith, c.requires.room, c.loop-k.invariant.long, c.loop-k.invariant.longer.limit, c.loop-k-test.true)

@@ -5,6 +5,7 @@ use Rattle.ae_netlist.specs.Circuit.{Circuit}
 use Rattle.ae_runs.specs.SameRuns.{input_cells}
 use Rattle.ae_judge.proofs.Members.{among_from}
 use Rattle.ae_runs.proofs.Clocks.{output_no_clock}
+use Rattle.ae_elab.proofs.Unchanged.{inputs_kept, states_kept}
 use Rattle.ae_elab.proofs.Realizing.{at_of, nets_connected, plain_ports, realizes, still_unconnected}
 use Rattle.ae_elab.proofs.WeightParts.{weight_parts}
 use Rattle.ae_elab.proofs.build.construct.Goals as goal
@@ -20,7 +21,7 @@ add_wires-requires-clause-room c =
 
 pub perform-requires-clause-from : goal.perform-requires-clause-from
 perform-requires-clause-from c =
-    let l = extends_length _ _ c.in_ok-add_wires.ensures.grows.extends in
+    let l = extends_length _ _ c.in_ok-add_wires.ensures.grows.grows.extends in
     let e = c.len-from.ensures in
     omega arith
 
@@ -28,7 +29,7 @@ pub perform-requires-clause-free : goal.perform-requires-clause-free
 perform-requires-clause-free c =
     rw c.deref.ensures.value
     (still_unconnected (module_tree c.args.m.now) c.in_ok-nets.nets.items c.add_wires.new.nets.items c.declare_nets.new.nl.cells c.add_wires.new.nl.cells
-    c.in_ok-nets.ensures.declared c.in_ok-add_wires.ensures.keeps c.in_ok-add_wires.ensures.grows.extends c.len-from.result c.len-from.ensures)
+    c.in_ok-nets.ensures.declared c.in_ok-add_wires.ensures.keeps c.in_ok-add_wires.ensures.grows.grows.extends c.len-from.result c.len-from.ensures)
 
 pub perform-requires-clause-room : goal.perform-requires-clause-room
 perform-requires-clause-room c =
@@ -36,7 +37,7 @@ perform-requires-clause-room c =
     let few = c.in_ok-nets.ensures.declared.few in
     let more = c.in_ok-add_wires.ensures.few in
     let limit = c.in_ok-nets.ensures.limit in
-    let same = c.in_ok-add_wires.ensures.grows.limit in
+    let same = c.in_ok-add_wires.ensures.grows.grows.limit in
     let new = ap (λ (n : Circuit). n.limit) c.new-nl.ensures in
     let small = c.requires.small in
     omega arith
@@ -60,7 +61,7 @@ returns-clause-realizes c =
       at_of m.nets nets,
       realizes m c.requires.regular c.requires.shape nets c.len-from.result c.in_ok-nets.nets.items c.declare_nets.new.nl.cells c.add_wires.new.nl
           c.perform.new.nl c.add_outputs.new.nl
-          c.in_ok-nets.ensures.declared c.in_ok-add_wires.ensures.keeps grows.inputs grows.states c.in_ok-add_wires.ensures.wired
+          c.in_ok-nets.ensures.declared c.in_ok-add_wires.ensures.keeps (inputs_kept grows) (states_kept grows) c.in_ok-add_wires.ensures.wired
           c.in_ok-perform.ensures.connects c.in_ok-add_outputs.ensures.cells
           (rw c.deref.ensures.value at c.in_ok-perform.ensures.steps) (rw c.deref-2.ensures.value at c.in_ok-add_outputs.ensures.outlets),
     )
@@ -77,5 +78,5 @@ returns-clause-few c =
 pub returns-clause-plain : goal.returns-clause-plain
 returns-clause-plain c =
     plain_ports c.declare_nets.new.nl.cells c.add_outputs.new.nl
-    (ap (λ cs. input_cells cs) c.in_ok-add_outputs.ensures.cells ∙ c.in_ok-perform.ensures.connects.inputs ∙ c.in_ok-add_wires.ensures.grows.inputs)
+    (ap (λ cs. input_cells cs) c.in_ok-add_outputs.ensures.cells ∙ c.in_ok-perform.ensures.connects.inputs ∙ inputs_kept c.in_ok-add_wires.ensures.grows)
     c.in_ok-nets.ensures.declared.plain c.in_ok-add_outputs.ensures.plain

@@ -1,7 +1,7 @@
 use Rattle.std.proofs.Common.{◌≡◌, ◌+◌, ◌*◌, ◌<◌, ◌∷◌, length, map, drop, rules, subst, arith}
 use Rattle.std.specs.List.{sum_by}
 use Rattle.ae_vmodule.specs.View.{item_tree}
-use Rattle.ae_gates.specs.Cells.{HasRoom}
+use Rattle.ae_netlist.specs.Room.{HasRoom}
 use Rattle.ae_assign.specs.Edges.{edge_weight}
 use Rattle.std.proofs.lemmas.List.Sums.{sum_by-cons}
 use Rattle.ae_express.proofs.NetLaws.{nets_grow}
@@ -20,7 +20,7 @@ act_item-requires c =
     whole u) turn c.loop-item.invariant in
     let had = c.requires.room in
     let few = here.few in
-    let limit = here.grows.limit in
+    let limit = here.grows.grows.limit in
     let more = here.more in
     let sum : sum_by edge_weight (i ∷ rest) ≡ edge_weight i + sum_by edge_weight rest = sum_by-cons edge_weight i rest in
     let room : HasRoom c.loop-item.nl (8 * edge_weight (item_tree c.args.names.now.words c.item-item.result)) = omega arith in
@@ -47,8 +47,8 @@ loop-item-preserved c =
     items_step c.args.from c.args.names.now.nets c.args.nets.now c.args.nl.now c.args.nexts.now.items whole c.loop-item.nl c.act_item.new.nl
     c.loop-item.nexts.items
     c.act_item.new.nexts.items (item_tree c.args.names.now.words c.item-item.result) rest here
-    c.in_ok-act_item.ensures.grows c.in_ok-act_item.ensures.more c.in_ok-act_item.ensures.few c.in_ok-act_item.ensures.nexts c.in_ok-act_item.ensures.others
-    c.in_ok-act_item.ensures.acts
+    c.in_ok-act_item.ensures.adds.grows c.in_ok-act_item.ensures.adds.more c.in_ok-act_item.ensures.adds.few
+    c.in_ok-act_item.ensures.nexts c.in_ok-act_item.ensures.others c.in_ok-act_item.ensures.acts
 
 pub returns-clause-acts : goal.returns-clause-acts
 returns-clause-acts c =

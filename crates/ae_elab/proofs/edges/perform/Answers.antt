@@ -1,5 +1,7 @@
 use Rattle.std.proofs.Common.{◌≡◌, length, map, replicate, arith, sym, ap, ◌∙◌}
 use Rattle.std.proofs.lemmas.List.{length-map}
+use Rattle.ae_netlist.proofs.Carried.{carries_extends, carries_trans}
+use Rattle.ae_netlist.proofs.Growing.{keeps_extends}
 use Rattle.ae_vmodule.specs.View.{item_tree, module_tree, net_tree}
 use Rattle.ae_assign.specs.Edges.{ActsItems}
 use Rattle.ae_assign.specs.declared.statements.Next.TheVariants.{Keep}
@@ -7,6 +9,7 @@ use Rattle.ae_elab.proofs.EdgeSteps.{edge_steps}
 use Rattle.ae_elab.proofs.EdgeSound.{items_active}
 use Rattle.ae_elab.proofs.EdgeFresh.{first_fit, first_fresh, first_nexts, items_next, unconnected_grows}
 use Rattle.ae_elab.proofs.Tables.{table_nets}
+use Rattle.ae_elab.proofs.Unchanged.{inputs_kept, states_kept}
 use Rattle.ae_elab.proofs.edges.perform.Goals as goal
 
 pub act_items-requires : goal.act_items-requires
@@ -35,6 +38,19 @@ connect_all-requires c = record {
       c.requires.free;
   fits = rw (sym (table_nets c.requires.names)) (rw c.deref-2.ensures.value c.in_ok-act_items.ensures.nexts);
 }
+
+pub returns-clause-connects : goal.returns-clause-connects
+returns-clause-connects c =
+    let g = c.in_ok-act_items.ensures.grows in
+    let k = c.connect_all.ensures.connects in
+    record {
+      carries = carries_trans (carries_extends c.args.from g.grows.extends) k.carries;
+      memories = λ n w d h. k.memories n w d ((keeps_extends g.grows.extends).memories n w d h);
+      inputs = k.inputs ∙ inputs_kept g;
+      states = k.states ∙ ap (map _) (states_kept g);
+      limit = k.limit ∙ g.grows.limit;
+      outlets = k.outlets ∙ g.grows.outlets;
+    }
 
 pub returns-clause-steps : goal.returns-clause-steps
 returns-clause-steps c = λ at named run is t l.

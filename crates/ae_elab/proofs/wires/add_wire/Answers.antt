@@ -82,7 +82,7 @@ returns-in_ok-y-in-Some-clause-wiring c =
     (wiring_more m c.requires.regular c.requires.shape c.args.order.now c.requires.sorted c.args.from c.args.turn c.place_at-place.result
     c.place_at-place.ensures c.args.nets.now.items c.args.nl.now c.given_word.new.nl x.0
     (expr_tree c.args.names.now.words (numbered c.in-Some.e)) c.in_ok-y-in-Some.y
-    c.requires.wiring v x.1 c.in_ok-y-in-Some.ensures.grows c.in_ok-y-in-Some.ensures.more (rw width at c.in_ok-y-in-Some.ensures.net)
+    c.requires.wiring v x.1 c.in_ok-y-in-Some.ensures.adds.grows c.in_ok-y-in-Some.ensures.adds.more (rw width at c.in_ok-y-in-Some.ensures.net)
     (λ at named. rw (width, table_nets c.requires.names) at
     (c.in_ok-y-in-Some.ensures.word at (rw (table_nets c.requires.names, c.deref.ensures.value) named))))
 
@@ -103,5 +103,5 @@ returns-in_ok-y-in-Some-clause-few c =
     let less = open_less m c.requires.regular c.requires.shape c.args.order.now c.requires.sorted c.args.from c.args.turn c.place_at-place.result
     c.place_at-place.ensures c.args.nets.now.items c.args.nl.now.cells
     (expr_tree c.args.names.now.words (numbered c.in-Some.e)) c.in_ok-y-in-Some.y c.requires.wiring v in
-    let few = c.in_ok-y-in-Some.ensures.few in
+    let few = c.in_ok-y-in-Some.ensures.adds.few in
     rw c.set_net.ensures (omega arith)

@@ -9,7 +9,7 @@ use Rattle.ae_vmodule.specs.View.{expr_tree, word_at}
 use Rattle.ae_judge.specs.Widths.{own_width}
 use Rattle.ae_judge.specs.Weight.{expr_weight}
 use Rattle.ae_judge.specs.Faults.{is_place}
-use Rattle.ae_gates.specs.Cells.{HasRoom}
+use Rattle.ae_netlist.specs.Room.{HasRoom}
 use Rattle.ae_order.specs.Sound.{IsReadyFor, IsSound, IsSoundIndex, place_number}
 use Rattle.ae_express.specs.Asked.{EndsWith, part_widths}
 use Rattle.ae_gates.proofs.Words.{grows_trans}
@@ -45,7 +45,7 @@ lower-returns-in_ok-x-in-None-clause-lowered t c =
     rw is
     (index_lowered c.args.from ns c.args.nets.now c.args.nl.now c.lower.new.nl c.read_word.new.nl c.read_word.result
     (word_at ws c.in-Index.name) _ _ c.args.w at v.memory c.own_width-own.ensures.own c.in_ok-x-in-None.ensures.lowered
-    (record { grows = c.read_word.ensures.grows; more = c.read_word.ensures.more; few = c.read_word.ensures.few; net = c.read_word.ensures.net })
+    (record { adds = c.read_word.ensures.adds; net = c.read_word.ensures.net })
     c.read_word.ensures.word)
 
 pub lower_unary-returns-in_ok-zero-in-Not-clause-lowered : goal.lower_unary-returns-in_ok-zero-in-Not-clause-lowered
@@ -54,8 +54,8 @@ lower_unary-returns-in_ok-zero-in-Not-clause-lowered t c =
     rw c.in-Not.is
     (not_lowered c.args.from c.args.names.now.nets c.args.nets.now c.args.nl.now c.lower.new.nl c.is_zero.new.nl c.widen.new.nl c.widen.result _ _ _ c.args.w
     a c.own_width-own.ensures.own
-    c.in_ok-x-in-Not.ensures.lowered c.in_ok-zero-in-Not.ensures.grows c.in_ok-zero-in-Not.ensures.more c.in_ok-zero-in-Not.ensures.few
-    (record { grows = c.widen.ensures.grows; more = c.widen.ensures.more; few = c.widen.ensures.few; net = c.widen.ensures.net })
+    c.in_ok-x-in-Not.ensures.lowered c.in_ok-zero-in-Not.ensures.adds.grows c.in_ok-zero-in-Not.ensures.adds.more c.in_ok-zero-in-Not.ensures.adds.few
+    (record { adds = c.widen.ensures.adds; net = c.widen.ensures.net })
     c.in_ok-zero-in-Not.ensures.word c.widen.ensures.word)
 
 pub lower_unary-returns-in_ok-x-in-Flip-clause-lowered : goal.lower_unary-returns-in_ok-x-in-Flip-clause-lowered
@@ -64,7 +64,7 @@ lower_unary-returns-in_ok-x-in-Flip-clause-lowered t c =
     (flip_lowered c.args.from c.args.names.now.nets c.args.nets.now c.args.nl.now c.lower-in-Flip.new.nl c.gate.new.nl c.gate.result _ c.args.w
     (expr_tree c.args.names.now.words (numbered c.args.a))
     c.in_ok-x-in-Flip.ensures.lowered
-    (record { grows = c.gate.ensures.grows; more = c.gate.ensures.more; few = c.gate.ensures.few; net = c.gate.ensures.net }) c.gate.ensures.word)
+    (record { adds = c.gate.ensures.adds; net = c.gate.ensures.net }) c.gate.ensures.word)
 
 pub lower-returns-in_ok-x-in-Some-fixed_shift-clause-lowered : goal.lower-returns-in_ok-x-in-Some-fixed_shift-clause-lowered
 lower-returns-in_ok-x-in-Some-fixed_shift-clause-lowered t c =
@@ -75,7 +75,7 @@ lower-returns-in_ok-x-in-Some-fixed_shift-clause-lowered t c =
     (constant_lowered c.args.from c.args.names.now.nets c.args.nets.now c.args.nl.now c.lower-in-Some-fixed_shift.new.nl c.moved_by.new.nl c.moved_by.result
     k.op c.in-Some-fixed_shift.way _ c.in-Some-fixed_shift.places c.args.w (tree (numbered k.a)) (tree (numbered k.b))
     c.in-Some-fixed_shift.ensures.way (c.in-Some-fixed_shift.ensures.places c.args.names.now.words) c.in_ok-x-in-Some-fixed_shift.ensures.lowered
-    (record { grows = c.moved_by.ensures.grows; more = c.moved_by.ensures.more; few = c.moved_by.ensures.few; net = c.moved_by.ensures.net })
+    (record { adds = c.moved_by.ensures.adds; net = c.moved_by.ensures.net })
     c.moved_by.ensures.word)
 
 pub lower-returns-in_ok-y-in-None-fixed_shift-clause-lowered : goal.lower-returns-in_ok-y-in-None-fixed_shift-clause-lowered
@@ -88,7 +88,7 @@ lower-returns-in_ok-y-in-None-fixed_shift-clause-lowered t c =
     c.combine.new.nl c.combine.result k.op _ _ _ _ c.args.w (tree (numbered k.a)) (tree (numbered k.b))
     c.operand_widths-wa.ensures.left c.operand_widths-wa.ensures.right (c.in-None-fixed_shift.ensures.none c.args.names.now.words)
     c.in_ok-x-in-None-fixed_shift.ensures.lowered c.in_ok-y-in-None-fixed_shift.ensures.lowered
-    (record { grows = c.combine.ensures.grows; more = c.combine.ensures.more; few = c.combine.ensures.few; net = c.combine.ensures.net })
+    (record { adds = c.combine.ensures.adds; net = c.combine.ensures.net })
     c.combine.ensures.word)
 
 pub lower-returns-in_ok-y-in-Choose-clause-lowered : goal.lower-returns-in_ok-y-in-Choose-clause-lowered
@@ -100,7 +100,7 @@ lower-returns-in_ok-y-in-Choose-clause-lowered t c =
     (choice_lowered c.args.from c.args.names.now.nets c.args.nets.now c.args.nl.now c.lower-in-Choose.new.nl c.lower-in-Choose-2.new.nl
     c.lower-in-Choose-3.new.nl c.chosen.new.nl c.chosen.result _ _ _ _ c.args.w (tree (numbered k.test)) (tree (numbered k.a)) (tree (numbered k.b))
     c.own_width-own-in-Choose.ensures.own c.in_ok-t-in-Choose.ensures.lowered c.in_ok-x-in-Choose.ensures.lowered c.in_ok-y-in-Choose.ensures.lowered
-    (record { grows = c.chosen.ensures.grows; more = c.chosen.ensures.more; few = c.chosen.ensures.few; net = c.chosen.ensures.net }) c.chosen.ensures.word)
+    (record { adds = c.chosen.ensures.adds; net = c.chosen.ensures.net }) c.chosen.ensures.word)
 
 -- what is left for each operand
 pub lower-lower-requires-in-None-fixed_shift : goal.lower-lower-requires-in-None-fixed_shift
@@ -229,7 +229,7 @@ lower-returns-in_ok-x-in-One-clause-lowered t c =
     rw is
     (one_lowered c.args.from ns c.args.nets.now c.args.nl.now c.lower-in-One.new.nl c.widen.new.nl c.widen.result _ _ c.args.w a last.0
     c.in_ok-x-in-One.ensures.lowered
-    (record { grows = c.widen.ensures.grows; more = c.widen.ensures.more; few = c.widen.ensures.few; net = c.widen.ensures.net })
+    (record { adds = c.widen.ensures.adds; net = c.widen.ensures.net })
     c.widen.ensures.word)
 
 pub lower-returns-in_ok-x-in-More-clause-lowered : goal.lower-returns-in_ok-x-in-More-clause-lowered
@@ -241,7 +241,7 @@ lower-returns-in_ok-x-in-More-clause-lowered t c =
     rw is
     (more_lowered c.args.from c.args.names.now.nets c.args.nets.now c.args.nl.now c.lower_parts.new.nl w.new.nl w.result _ _ c.args.w
     (tree (numbered k.a)) (tree (numbered k.rest)) c.in_ok-x-in-More.ensures.lowered
-    (record { grows = w.ensures.grows; more = w.ensures.more; few = w.ensures.few; net = w.ensures.net })
+    (record { adds = w.ensures.adds; net = w.ensures.net })
     w.ensures.word)
 
 -- the first part
@@ -342,7 +342,7 @@ lower_parts-lower-requires-in-More t c =
     let before = c.requires.from in
     let longer = i.more in
     let few = i.few in
-    let limit = i.grows.limit in
+    let limit = i.grows.grows.limit in
     let low : 1 ≤ c.last_width-wide.result = omega arith in
     let high : c.last_width-wide.result ≤ 64 = omega arith in
     let within : own_width ns a ≤ c.last_width-wide.result = omega arith in
@@ -424,12 +424,12 @@ lower_parts-part-preserved t c =
     let least = i.low in
     let few = i.few in
     let few_low = low.few in
-    let few_linked = x.few in
+    let few_linked = x.adds.few in
     let longer = i.more in
     let longer_low = low.more in
-    let longer_linked = x.more in
+    let longer_linked = x.adds.more in
     let fewer = i.fewer in
-    let g = grows_trans low.grows x.grows in
+    let g = grows_trans low.grows x.adds.grows in
     record {
       grows = grows_trans i.grows g;
       more = omega arith;
@@ -484,7 +484,7 @@ lower_parts-lower-requires-in-One t c =
     let before = c.requires.from in
     let longer = i.more in
     let few = i.few in
-    let limit = i.grows.limit in
+    let limit = i.grows.grows.limit in
     let low : 1 ≤ w.result = omega arith in
     let high : w.result ≤ 64 = omega arith in
     let within : own_width ns a ≤ w.result = omega arith in
@@ -580,11 +580,11 @@ lower_parts-returns-in-One-clause-lowered t c =
     let weight = ap (λ (e : NumberedExpr). expr_weight (tree e)) is in
     let few = i.few in
     let few_low = low.few in
-    let few_linked = y.few in
+    let few_linked = y.adds.few in
     let longer = i.more in
     let longer_low = low.more in
-    let longer_linked = y.more in
-    let g = grows_trans low.grows y.grows in
+    let longer_linked = y.adds.more in
+    let g = grows_trans low.grows y.adds.grows in
     record {
       grows = grows_trans i.grows g;
       more = omega arith;
@@ -609,11 +609,11 @@ lower_parts-returns-in_default t c =
     let so_far = i.own in
     let few = i.few in
     let few_low = low.few in
-    let few_linked = y.few in
+    let few_linked = y.adds.few in
     let longer = i.more in
     let longer_low = low.more in
-    let longer_linked = y.more in
-    let g = grows_trans low.grows y.grows in
+    let longer_linked = y.adds.more in
+    let g = grows_trans low.grows y.adds.grows in
     record {
       widths = i.taken c.lower-in_default.new.widths.items c.in_ok-low-in_default.ensures.widths;
       own = omega arith;

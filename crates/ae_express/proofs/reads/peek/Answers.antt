@@ -1,14 +1,14 @@
 use Rattle.std.proofs.Common.{refl}
 use Rattle.ae_netlist.specs.declared.cell.Cell.TheVariants.{Peek}
-use Rattle.ae_gates.proofs.Words.{grows_push, pushed_net}
+use Rattle.ae_gates.proofs.Words.{adds_push, pushed_net}
 use Rattle.ae_express.proofs.NetLaws.{peek_word, peek_allowed}
 use Rattle.ae_express.proofs.reads.peek.Goals as goal
 
 pub push-requires-clause-allowed : goal.push-requires-clause-allowed
 push-requires-clause-allowed c = peek_allowed _ _ _ _ _ c.requires.memory c.requires.address
 
-pub returns-clause-grows : goal.returns-clause-grows
-returns-clause-grows c = grows_push _ _ _ refl refl c.in_ok-y.ensures.added
+pub returns-clause-adds : goal.returns-clause-adds
+returns-clause-adds c = adds_push _ _ _ refl refl refl c.in_ok-y.ensures.added
 
 pub returns-clause-net : goal.returns-clause-net
 returns-clause-net c = pushed_net _ _ _ _ (Peek c.args.memory c.args.at) tt c.in_ok-y.ensures.ok c.in_ok-y.ensures.added

@@ -12,7 +12,7 @@ pub peek-requires-clause-memory : goal.peek-requires-clause-memory
 peek-requires-clause-memory c =
     let t : is_memory_name c.args.names.now.nets (word_at c.args.names.now.words c.args.name) ≡ true = sym c.is_memory.ensures ∙ c.if-is_memory.true in
     let m = name_memory _ _ _ _ _ c.requires.named t c.requires.nets c.net_of-net.ensures in
-    rw (c.name_width-width.ensures.width, c.depth.ensures) ((keeps_extends c.in_ok-at.ensures.grows.extends).memories _ _ _ m)
+    rw (c.name_width-width.ensures.width, c.depth.ensures) ((keeps_extends c.in_ok-at.ensures.adds.grows.grows.extends).memories _ _ _ m)
 
 pub returns-then-is_memory-clause-word : goal.returns-then-is_memory-clause-word
 returns-then-is_memory-clause-word c = λ at a.

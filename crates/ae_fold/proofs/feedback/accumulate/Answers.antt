@@ -3,14 +3,12 @@ use Rattle.std.proofs.Common.{◌≡◌, ◌+◌, ◌-◌, ◌<◌, length, arit
 use Rattle.ae_netlist.specs.Runs.{Carries}
 use Rattle.ae_netlist.proofs.Carried.{carries_extends, carries_later, carries_trans}
 use Rattle.ae_netlist.proofs.Growing.{extends_trans, net_later}
-use Rattle.ae_clocked.proofs.Adding.{grows_trans}
-use Rattle.ae_clocked.proofs.Added.{back, connect_carries, grows_length, net_own, net_within, own_register, register_later}
-use Rattle.ae_fold.proofs.Feeding.{adds_up, continues}
-use Rattle.ae_fold.proofs.Storing.{may_place_grows, stores_connect, stores_is, stores_made, stores_of, stores_trans, stores_up}
+use Rattle.ae_gates.proofs.Adding.{grows_trans}
+use Rattle.ae_gates.proofs.Added.{back, grows_length, net_within}
+use Rattle.ae_clocked.proofs.Connecting.{connect_carries, net_own, own_register, register_later}
+use Rattle.ae_fold.proofs.Feeding.{continues}
+use Rattle.ae_fold.proofs.Storing.{may_place_grows, stores_connect, stores_is, stores_made, stores_of, stores_trans}
 use Rattle.ae_fold.proofs.feedback.accumulate.Goals as goal
-
-pub returns-in_err-r-clause-up : goal.returns-in_err-r-clause-up
-returns-in_err-r-clause-up c = adds_up _ (omega arith) c.in_err-r.ensures.adds
 
 pub waiting-requires-clause-net : goal.waiting-requires-clause-net
 waiting-requires-clause-net c = c.in_ok-r.ensures.net
@@ -18,20 +16,12 @@ waiting-requires-clause-net c = c.in_ok-r.ensures.net
 pub waiting-requires-clause-place : goal.waiting-requires-clause-place
 waiting-requires-clause-place c = may_place_grows _ _ _ c.args.ring c.in_ok-r.ensures.adds.grows.extends c.requires.place
 
-pub returns-in_err-back-clause-up : goal.returns-in_err-back-clause-up
-returns-in_err-back-clause-up c = stores_up _ (omega arith) (stores_trans (stores_of c.in_ok-r.ensures.adds) (stores_made c.in_err-back.ensures.adds))
-
 pub combined-requires-clause-left : goal.combined-requires-clause-left
 combined-requires-clause-left c = c.in_ok-back.ensures.net
 
 pub combined-requires-clause-right : goal.combined-requires-clause-right
 combined-requires-clause-right c =
     net_later (grows_trans c.in_ok-r.ensures.adds.grows c.in_ok-back.ensures.adds.grows).extends c.requires.net
-
-pub returns-in_err-both-clause-up : goal.returns-in_err-both-clause-up
-returns-in_err-both-clause-up c =
-    stores_up _ (omega arith)
-    (stores_trans (stores_trans (stores_of c.in_ok-r.ensures.adds) (stores_made c.in_ok-back.ensures.adds)) (stores_of c.in_err-both.ensures.err))
 
 pub choose-requires-clause-condition : goal.choose-requires-clause-condition
 choose-requires-clause-condition c =
@@ -43,12 +33,6 @@ choose-requires-clause-left c =
 
 pub choose-requires-clause-right : goal.choose-requires-clause-right
 choose-requires-clause-right c = c.in_ok-both.ensures.net
-
-pub returns-in_err-next-clause-up : goal.returns-in_err-next-clause-up
-returns-in_err-next-clause-up c =
-    stores_up _ (omega arith)
-    (stores_trans (stores_trans (stores_trans (stores_of c.in_ok-r.ensures.adds) (stores_made c.in_ok-back.ensures.adds)) (stores_of c.in_ok-both.ensures.adds))
-    (stores_of c.in_err-next.ensures.adds))
 
 pub close-requires-clause-register : goal.close-requires-clause-register
 close-requires-clause-register c =
@@ -65,13 +49,6 @@ returns-clause-adds c =
     let delay : c.args.inner - 1 + 1 ≡ c.args.inner = omega (arith, c.requires.lasting) in
     stores_is (omega arith) (omega arith) (omega arith)
     (stores_connect (stores_trans (stores_trans (stores_trans (stores_of c.in_ok-r.ensures.adds) (stores_made (rw delay at c.in_ok-back.ensures.adds)))
-    (stores_of c.in_ok-both.ensures.adds)) (stores_of c.in_ok-next.ensures.adds))
-    (omega (arith, c.in_ok-r.ensures.fresh)) c.close.ensures)
-
-pub returns-clause-up : goal.returns-clause-up
-returns-clause-up c =
-    stores_up _ (omega arith)
-    (stores_connect (stores_trans (stores_trans (stores_trans (stores_of c.in_ok-r.ensures.adds) (stores_made c.in_ok-back.ensures.adds))
     (stores_of c.in_ok-both.ensures.adds)) (stores_of c.in_ok-next.ensures.adds))
     (omega (arith, c.in_ok-r.ensures.fresh)) c.close.ensures)
 
@@ -117,3 +94,30 @@ returns-clause-late c = λ rst turns all e run is start reset.
     (omega (arith, c.in_ok-r.ensures.fresh)) c.close.ensures in
     let turning = turns all (extends_trans grown.grows.extends e) run is start reset in
     c.in_ok-back.ensures.words all (back c.in_ok-both.ensures.adds.grows (back c.in_ok-next.ensures.adds.grows closed)) run is start turning
+
+pub waiting-requires-clause-room : goal.waiting-requires-clause-room
+waiting-requires-clause-room c = omega (arith, c.requires.room, c.in_ok-r.ensures.adds.cells, c.in_ok-r.ensures.adds.grows.limit)
+
+pub combined-requires-clause-room : goal.combined-requires-clause-room
+combined-requires-clause-room c =
+    omega (
+      arith,
+      c.requires.room,
+      c.in_ok-r.ensures.adds.cells,
+      c.in_ok-r.ensures.adds.grows.limit,
+      c.in_ok-back.ensures.adds.cells,
+      c.in_ok-back.ensures.adds.grows.limit,
+    )
+
+pub choose-requires-clause-room : goal.choose-requires-clause-room
+choose-requires-clause-room c =
+    omega (
+      arith,
+      c.requires.room,
+      c.in_ok-r.ensures.adds.cells,
+      c.in_ok-r.ensures.adds.grows.limit,
+      c.in_ok-back.ensures.adds.cells,
+      c.in_ok-back.ensures.adds.grows.limit,
+      c.in_ok-both.ensures.adds.cells,
+      c.in_ok-both.ensures.adds.grows.limit,
+    )

@@ -1,13 +1,10 @@
 -- The cells of a lane behind a loop.
 use Rattle.std.proofs.Common.{arith}
 use Rattle.ae_netlist.proofs.Carried.{carries_extends, carries_later}
-use Rattle.ae_clocked.proofs.Adding.{adds_trans, net_added}
-use Rattle.ae_clocked.proofs.Added.{back}
-use Rattle.ae_fold.proofs.Feeding.{adds_is, adds_up, continues}
+use Rattle.ae_gates.proofs.Adding.{adds_trans, net_added}
+use Rattle.ae_gates.proofs.Added.{back}
+use Rattle.ae_fold.proofs.Feeding.{adds_is, continues}
 use Rattle.ae_fold.proofs.feedback.follow.Goals as goal
-
-pub returns-in_err-both-clause-up : goal.returns-in_err-both-clause-up
-returns-in_err-both-clause-up c = adds_up 10 (omega arith) c.in_err-both.ensures.err
 
 pub choose-requires-clause-condition : goal.choose-requires-clause-condition
 choose-requires-clause-condition c = net_added c.in_ok-both.ensures.adds c.requires.first
@@ -15,17 +12,8 @@ choose-requires-clause-condition c = net_added c.in_ok-both.ensures.adds c.requi
 pub choose-requires-clause-left : goal.choose-requires-clause-left
 choose-requires-clause-left c = net_added c.in_ok-both.ensures.adds c.requires.net
 
-pub returns-in_err-next-clause-up : goal.returns-in_err-next-clause-up
-returns-in_err-next-clause-up c = adds_up 10 (omega arith) (adds_trans c.in_ok-both.ensures.adds c.in_err-next.ensures.adds)
-
-pub returns-in_err-z-clause-up : goal.returns-in_err-z-clause-up
-returns-in_err-z-clause-up c = adds_up 10 (omega arith) (adds_trans (adds_trans c.in_ok-both.ensures.adds c.in_ok-next.ensures.adds) c.in_err-z.ensures.adds)
-
 pub returns-clause-adds : goal.returns-clause-adds
 returns-clause-adds c = adds_is (omega arith) (omega arith) (adds_trans (adds_trans c.in_ok-both.ensures.adds c.in_ok-next.ensures.adds) c.in_ok-z.ensures.adds)
-
-pub returns-clause-up : goal.returns-clause-up
-returns-clause-up c = adds_up 10 (omega arith) (adds_trans (adds_trans c.in_ok-both.ensures.adds c.in_ok-next.ensures.adds) c.in_ok-z.ensures.adds)
 
 pub returns-clause-words : goal.returns-clause-words
 returns-clause-words c = λ all e run is start y d late.
@@ -38,3 +26,17 @@ returns-clause-words c = λ all e run is start y d late.
     (c.in_ok-both.ensures.words all (carries_later _ _ (omega arith) k1) run is)
     (c.in_ok-next.ensures.words all (carries_later _ _ (omega arith) k2) run is)
     (c.in_ok-z.ensures.words all (carries_later _ _ (omega arith) k3) run is)
+
+pub choose-requires-clause-room : goal.choose-requires-clause-room
+choose-requires-clause-room c = omega (arith, c.requires.room, c.in_ok-both.ensures.adds.cells, c.in_ok-both.ensures.adds.grows.limit)
+
+pub delayed-requires-clause-room : goal.delayed-requires-clause-room
+delayed-requires-clause-room c =
+    omega (
+      arith,
+      c.requires.room,
+      c.in_ok-both.ensures.adds.cells,
+      c.in_ok-both.ensures.adds.grows.limit,
+      c.in_ok-next.ensures.adds.cells,
+      c.in_ok-next.ensures.adds.grows.limit,
+    )

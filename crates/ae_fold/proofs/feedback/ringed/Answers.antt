@@ -2,8 +2,8 @@
 use Rattle.std.proofs.Common.{◌≡◌, ◌+◌, ◌-◌, ◌^◌, arith}
 use Rattle.ae_netlist.proofs.Growing.{net_later}
 use Rattle.ae_netlist.proofs.Carried.{carries_later}
-use Rattle.ae_clocked.proofs.Adding.{adds_trans, grows_trans}
-use Rattle.ae_clocked.proofs.Added.{back, grows_length}
+use Rattle.ae_gates.proofs.Adding.{adds_trans, grows_trans}
+use Rattle.ae_gates.proofs.Added.{back, grows_length}
 use Rattle.ae_clocked.proofs.Making.{memories_before, memories_most, memory_grows}
 use Rattle.ae_fold.proofs.Storing.{ring_later}
 use Rattle.ae_fold.proofs.feedback.ringed.Goals as goal
@@ -11,8 +11,8 @@ use Rattle.ae_fold.proofs.feedback.ringed.Goals as goal
 pub store-requires-clause-place : goal.store-requires-clause-place
 store-requires-clause-place c = c.requires.place.net
 
-pub constant-requires : goal.constant-requires
-constant-requires c = omega (arith, c.from.ensures, c.ring_depth-places.ensures.holds, c.requires.late)
+pub constant-requires-clause-fits : goal.constant-requires-clause-fits
+constant-requires-clause-fits c = omega (arith, c.from.ensures, c.ring_depth-places.ensures.holds, c.requires.late)
 
 pub sum-requires-clause-left : goal.sum-requires-clause-left
 sum-requires-clause-left c =
@@ -28,30 +28,8 @@ look-requires-clause-memory c =
 pub look-requires-clause-place : goal.look-requires-clause-place
 look-requires-clause-place c = c.in_ok-place.ensures.net
 
-pub delayed-requires : goal.delayed-requires
-delayed-requires c = c.in_ok-word.ensures.net
-
-pub returns-in_err-memory-clause-adds : goal.returns-in_err-memory-clause-adds
-returns-in_err-memory-clause-adds c = memories_most 6 1 (omega arith) (omega arith) c.in_err-memory.ensures.adds
-
-pub returns-in_err-back-clause-adds : goal.returns-in_err-back-clause-adds
-returns-in_err-back-clause-adds c = memories_most 6 1 (omega arith) (omega arith) (memories_before c.in_ok-memory.ensures.adds c.in_err-back.ensures.adds)
-
-pub returns-in_err-place-clause-adds : goal.returns-in_err-place-clause-adds
-returns-in_err-place-clause-adds c =
-    memories_most 6 1 (omega arith) (omega arith)
-    (memories_before c.in_ok-memory.ensures.adds (adds_trans c.in_ok-back.ensures.adds c.in_err-place.ensures.adds))
-
-pub returns-in_err-word-clause-adds : goal.returns-in_err-word-clause-adds
-returns-in_err-word-clause-adds c =
-    memories_most 6 1 (omega arith) (omega arith)
-    (memories_before c.in_ok-memory.ensures.adds (adds_trans (adds_trans c.in_ok-back.ensures.adds c.in_ok-place.ensures.adds) c.in_err-word.ensures.adds))
-
-pub returns-in_err-kept-clause-adds : goal.returns-in_err-kept-clause-adds
-returns-in_err-kept-clause-adds c =
-    memories_most 6 1 (omega arith) (omega arith)
-    (memories_before c.in_ok-memory.ensures.adds
-    (adds_trans (adds_trans (adds_trans c.in_ok-back.ensures.adds c.in_ok-place.ensures.adds) c.in_ok-word.ensures.adds) c.in_err-kept.ensures.adds))
+pub delayed-requires-clause-net : goal.delayed-requires-clause-net
+delayed-requires-clause-net c = c.in_ok-word.ensures.net
 
 pub returns-clause-adds : goal.returns-clause-adds
 returns-clause-adds c =
@@ -89,3 +67,45 @@ returns-clause-words c = λ all k run is start counts.
     (c.in_ok-place.ensures.words all (carries_later _ _ (omega (arith, l1, l2)) k3) run is)
     (c.in_ok-word.ensures.words all (carries_later _ _ (omega (arith, l1, l2, l3)) k4) run is)
     (c.in_ok-kept.ensures.words all (carries_later _ _ (omega (arith, l1, l2, l3, l4)) k) run is) sum c.requires.late
+
+pub constant-requires-clause-room : goal.constant-requires-clause-room
+constant-requires-clause-room c = omega (arith, c.requires.room, c.in_ok-memory.ensures.adds.cells, c.in_ok-memory.ensures.adds.grows.limit)
+
+pub sum-requires-clause-room : goal.sum-requires-clause-room
+sum-requires-clause-room c =
+    omega (
+      arith,
+      c.requires.room,
+      c.in_ok-memory.ensures.adds.cells,
+      c.in_ok-memory.ensures.adds.grows.limit,
+      c.in_ok-back.ensures.adds.cells,
+      c.in_ok-back.ensures.adds.grows.limit,
+    )
+
+pub look-requires-clause-room : goal.look-requires-clause-room
+look-requires-clause-room c =
+    omega (
+      arith,
+      c.requires.room,
+      c.in_ok-memory.ensures.adds.cells,
+      c.in_ok-memory.ensures.adds.grows.limit,
+      c.in_ok-back.ensures.adds.cells,
+      c.in_ok-back.ensures.adds.grows.limit,
+      c.in_ok-place.ensures.adds.cells,
+      c.in_ok-place.ensures.adds.grows.limit,
+    )
+
+pub delayed-requires-clause-room : goal.delayed-requires-clause-room
+delayed-requires-clause-room c =
+    omega (
+      arith,
+      c.requires.room,
+      c.in_ok-memory.ensures.adds.cells,
+      c.in_ok-memory.ensures.adds.grows.limit,
+      c.in_ok-back.ensures.adds.cells,
+      c.in_ok-back.ensures.adds.grows.limit,
+      c.in_ok-place.ensures.adds.cells,
+      c.in_ok-place.ensures.adds.grows.limit,
+      c.in_ok-word.ensures.adds.cells,
+      c.in_ok-word.ensures.adds.grows.limit,
+    )

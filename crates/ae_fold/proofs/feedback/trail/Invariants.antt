@@ -1,7 +1,7 @@
 use Rattle.std.proofs.Common.{length}
 use Rattle.ae_netlist.specs.Circuit.{IsNet}
 use Rattle.ae_netlist.specs.Runs.{InEveryRunFrom}
-use Rattle.ae_clocked.specs.Signals.{Adds}
+use Rattle.ae_gates.specs.Cells.{Adds}
 use Rattle.ae_clocked.specs.Delays.{IsLate}
 use Rattle.ae_fold.proofs.feedback.trail.Given as goal
 

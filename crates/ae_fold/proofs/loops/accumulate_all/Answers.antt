@@ -1,10 +1,11 @@
 -- One loop more.
-use Rattle.std.proofs.Common.{◌≡◌, ◌+◌, ◌-◌, ◌++◌, ◌∷◌, [], length, ap, ◌∙◌, refl, arith}
+use Rattle.std.proofs.Common.{◌≤◌, ◌*◌, ◌≡◌, ◌+◌, ◌-◌, ◌++◌, ◌∷◌, [], length, ap, ◌∙◌, refl, arith}
 use Rattle.std.proofs.lemmas.List.{length_push}
 use Rattle.ae_netlist.proofs.Growing.{net_later}
-use Rattle.ae_clocked.proofs.Adding.{adds_same}
-use Rattle.ae_fold.proofs.Storing.{may_place_grows, stores_is, stores_of, stores_once, stores_up, stores_up_once, turns_grow}
+use Rattle.ae_gates.proofs.Adding.{adds_same}
+use Rattle.ae_fold.proofs.Storing.{may_place_grows, stores_is, stores_of, stores_once, turns_grow}
 use Rattle.ae_fold.proofs.Looping.{backs_more, backs_none, fold_product, loops_more, loops_none, nets_grow, fold_high, fold_low, fold_op}
+use Rattle.std.proofs.Math.Nat.{mul-le-mul_right}
 use Rattle.ae_fold.proofs.loops.accumulate_all.Goals as goal
 
 pub loop-p-init : goal.loop-p-init
@@ -19,12 +20,6 @@ loop-p-init c =
 
 pub accumulate-requires-clause-net : goal.accumulate-requires-clause-net
 accumulate-requires-clause-net c = (nets_grow c.loop-p.invariant.adds.grows.extends c.requires.nets).each (c.args.from + c.loop-p.p) (omega arith)
-
-pub returns-in_err-one-clause-up : goal.returns-in_err-one-clause-up
-returns-in_err-one-clause-up c = stores_up_once c.loop-p.p _ _ _ _ c.loop-p-test.true c.loop-p.invariant.adds c.in_err-one.ensures.up
-
-pub returns-in_err-push-clause-up : goal.returns-in_err-push-clause-up
-returns-in_err-push-clause-up c = stores_up_once c.loop-p.p _ _ _ _ c.loop-p-test.true c.loop-p.invariant.adds c.in_ok-one.ensures.up
 
 pub loop-p-preserved : goal.loop-p-preserved
 loop-p-preserved c =
@@ -41,11 +36,6 @@ loop-p-preserved c =
           (loops_more _ _ rst _ c.args.nets.now c.args.from _ _ c.loop-p.p c.loop-p.loops.items c.in_ok-one.one old.long more.adds.grows.extends
           (old.loops rst turns) (record { net = more.net; old = more.back; words = more.words rst turning; late = more.late rst turning }));
     }
-
-pub returns-clause-up : goal.returns-clause-up
-returns-clause-up c =
-    let e : c.loop-p.p ≡ length c.args.nets.now - c.args.from = omega arith in
-    rw (← e) (stores_up _ (omega arith) c.loop-p.invariant.adds)
 
 pub overflow_sub-p-end : goal.overflow_sub-p-end
 overflow_sub-p-end c = omega (arith, c.requires.within)
@@ -96,3 +86,9 @@ returns-clause-backs c = c.loop-p.invariant.backs
 
 pub returns-clause-loops : goal.returns-clause-loops
 returns-clause-loops c = c.loop-p.invariant.loops
+
+pub accumulate-requires-clause-room : goal.accumulate-requires-clause-room
+accumulate-requires-clause-room c =
+    let part : (c.loop-p.p + 1) * (c.args.inner + 9) ≤ (length c.args.nets.now - c.args.from) * (c.args.inner + 9) = mul-le-mul_right (c.args.inner + 9)
+    (omega (arith, c.loop-p-test.true)) in
+    omega (arith, c.requires.room, c.loop-p.invariant.adds.cells, c.loop-p.invariant.adds.grows.limit, part)

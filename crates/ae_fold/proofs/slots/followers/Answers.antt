@@ -1,9 +1,9 @@
 -- One net more behind the loops.
 use Rattle.std.proofs.Common.{◌≡◌, ◌+◌, ◌++◌, ◌∷◌, [], ap, ◌∙◌, arith, refl}
 use Rattle.std.proofs.lemmas.List.{length_push}
-use Rattle.ae_clocked.proofs.Adding.{net_added, adds_same}
-use Rattle.ae_fold.proofs.Feeding.{adds_up, adds_is}
-use Rattle.ae_fold.proofs.Looping.{adds_once, fold_op, fold_product, nets_grow, up_once, fold_high, fold_low}
+use Rattle.ae_gates.proofs.Adding.{net_added, adds_same}
+use Rattle.ae_fold.proofs.Feeding.{adds_is}
+use Rattle.ae_fold.proofs.Looping.{adds_once, fold_op, fold_product, nets_grow, fold_high, fold_low}
 use Rattle.ae_fold.proofs.Ending.{back_net, followers_more, loop_there, followers_none}
 use Rattle.ae_fold.proofs.slots.followers.Goals as goal
 
@@ -23,12 +23,6 @@ follow-requires-clause-back c =
 pub follow-requires-clause-folds : goal.follow-requires-clause-folds
 follow-requires-clause-folds c = fold_op c.args.folds.now c.loop-q.q c.requires.folds
 
-pub returns-in_err-net-clause-up : goal.returns-in_err-net-clause-up
-returns-in_err-net-clause-up c = up_once c.loop-q.q _ _ _ c.loop-q-test.true c.loop-q.invariant.adds c.in_err-net.ensures.up
-
-pub returns-in_err-push-clause-up : goal.returns-in_err-push-clause-up
-returns-in_err-push-clause-up c = up_once c.loop-q.q _ _ _ c.loop-q-test.true c.loop-q.invariant.adds c.in_ok-net.ensures.up
-
 pub loop-q-preserved : goal.loop-q-preserved
 loop-q-preserved c =
     let old = c.loop-q.invariant in
@@ -42,11 +36,6 @@ loop-q-preserved c =
           more.adds.grows.extends old.follow
           (loop_there c.args.loops.now c.args.stride c.loop-q.q c.requires.long c.requires.placed) (record { net = more.net; words = more.words }));
     }
-
-pub returns-clause-up : goal.returns-clause-up
-returns-clause-up c =
-    let e : c.loop-q.q ≡ c.args.from = omega arith in
-    rw (← e) (adds_up _ (omega arith) c.loop-q.invariant.adds)
 
 pub loop-q-init : goal.loop-q-init
 loop-q-init c =
@@ -84,3 +73,6 @@ returns-clause-long c = omega (arith, c.loop-q.invariant.long)
 
 pub returns-clause-follow : goal.returns-clause-follow
 returns-clause-follow c = c.loop-q.invariant.follow
+
+pub follow-requires-clause-room : goal.follow-requires-clause-room
+follow-requires-clause-room c = omega (arith, c.requires.room, c.loop-q.invariant.adds.cells, c.loop-q.invariant.adds.grows.limit, c.loop-q-test.true)

@@ -1,37 +1,18 @@
 -- The loops, the nets behind them, and all nets in order.
 use Rattle.std.proofs.Common.{◌≡◌, ◌-◌, length, ◌∙◌, arith}
 use Rattle.ae_fold.specs.Folding.{products_in}
-use Rattle.ae_fold.proofs.Storing.{stores_up, stores_up_trans}
 use Rattle.ae_fold.proofs.Looping.{loops_grow, nets_grow}
-use Rattle.ae_fold.proofs.Ending.{loops_adds, loops_up}
+use Rattle.ae_fold.proofs.Ending.{loops_adds}
 use Rattle.ae_netlist.proofs.Growing.{net_later}
 use Rattle.ae_fold.proofs.slots.looped.Goals as goal
 
-pub returns-in_err-loops-clause-up : goal.returns-in_err-loops-clause-up
-returns-in_err-loops-clause-up c = loops_up _ _ c.args.from c.args.stride c.args.inner (length c.args.nets.now) c.requires.last c.in_err-loops.ensures.up
-
 pub followers-requires-clause-nets : goal.followers-requires-clause-nets
 followers-requires-clause-nets c = nets_grow c.in_ok-loops.ensures.adds.grows.extends c.requires.nets
-
-pub returns-in_err-outs-clause-up : goal.returns-in_err-outs-clause-up
-returns-in_err-outs-clause-up c =
-    let e : length c.args.nets.now - c.args.from ≡ c.args.stride = omega (arith, c.requires.last) in
-    stores_up_trans _ (omega arith) (rw e at c.in_ok-loops.ensures.adds) c.in_err-outs.ensures.up
-
-pub returns-in_err-append_loops-clause-up : goal.returns-in_err-append_loops-clause-up
-returns-in_err-append_loops-clause-up c =
-    stores_up _ (omega arith) (loops_adds _ _ _ c.args.from c.args.stride c.args.inner (length c.args.nets.now)
-    (products_in c.args.folds.now) _ c.requires.last c.in_ok-loops.ensures.adds c.in_ok-outs.ensures.adds)
 
 pub returns-clause-adds : goal.returns-clause-adds
 returns-clause-adds c =
     loops_adds _ _ _ c.args.from c.args.stride c.args.inner (length c.args.nets.now)
     (products_in c.args.folds.now) _ c.requires.last c.in_ok-loops.ensures.adds c.in_ok-outs.ensures.adds
-
-pub returns-clause-up : goal.returns-clause-up
-returns-clause-up c =
-    stores_up _ (omega arith) (loops_adds _ _ _ c.args.from c.args.stride c.args.inner (length c.args.nets.now)
-    (products_in c.args.folds.now) _ c.requires.last c.in_ok-loops.ensures.adds c.in_ok-outs.ensures.adds)
 
 pub returns-clause-looped : goal.returns-clause-looped
 returns-clause-looped c = λ rst turns. record {
@@ -61,3 +42,14 @@ followers-requires-clause-backs c = λ p one found. c.in_ok-loops.ensures.backs 
 
 pub followers-requires-clause-long : goal.followers-requires-clause-long
 followers-requires-clause-long c = rw c.deref.ensures.value (c.in_ok-loops.ensures.long ∙ omega (arith, c.requires.last))
+
+pub accumulate_all-requires-clause-room : goal.accumulate_all-requires-clause-room
+accumulate_all-requires-clause-room c =
+    let e : length c.args.nets.now - c.args.from ≡ c.args.stride = omega (arith, c.requires.last) in
+    rw e (omega (arith, c.requires.room))
+
+pub followers-requires-clause-room : goal.followers-requires-clause-room
+followers-requires-clause-room c =
+    let e : length c.args.nets.now - c.args.from ≡ c.args.stride = omega (arith, c.requires.last) in
+    let made = rw e at c.in_ok-loops.ensures.adds in
+    omega (arith, c.requires.room, made.cells, made.grows.limit)

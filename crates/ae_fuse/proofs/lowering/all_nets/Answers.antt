@@ -13,7 +13,7 @@ use Rattle.ae_tidy.proofs.Placing.{marks_more}
 use Rattle.ae_lower.proofs.Growing.{adds_trans, adds_up, by_trans}
 use Rattle.ae_lower.proofs.Instances.{bundles_grow}
 use Rattle.ae_lower.proofs.Stretches.{extends_long}
-use Rattle.ae_lower.specs.Growth.{Adds, GrowsBy}
+use Rattle.ae_lower.specs.Growth.{AddsMulsAndMemories, GrowsBy}
 use Rattle.ae_gather.specs.Gathers.{move_of}
 use Rattle.ae_fuse.specs.Costing.{result_load, result_mems}
 use Rattle.ae_results.specs.Results.{result_move}
@@ -105,8 +105,8 @@ loop-k-preserved c =
     let new = c.result_nets.new.nl in
     let grown : GrowsBy c.loop-k.nl new (result_load c.args.whole (result_move ins own)) = subst
     (λ (m : Move). GrowsBy c.loop-k.nl new (result_load c.args.whole m)) is made.grows in
-    let added : Adds c.loop-k.nl new 0 (result_mems c.args.whole (result_move ins own)) = subst
-    (λ (m : Move). Adds c.loop-k.nl new 0 (result_mems c.args.whole m)) is made.adds in
+    let added : AddsMulsAndMemories c.loop-k.nl new 0 (result_mems c.args.whole (result_move ins own)) = subst
+    (λ (m : Move). AddsMulsAndMemories c.loop-k.nl new 0 (result_mems c.args.whole m)) is made.adds in
     let moved : IsLateResult new.cells c.loop-k.clocks.rst c.args.whole (result_move ins own) c.args.args.now c.in_ok-bundle.bundle = subst
     (λ (m : Move). IsLateResult new.cells c.loop-k.clocks.rst c.args.whole m c.args.args.now c.in_ok-bundle.bundle) is made.moved in
     let longer : length c.loop-k.nl.cells ≤ length c.result_nets.new.nl.cells = extends_long _ _ made.grows.grows.extends in

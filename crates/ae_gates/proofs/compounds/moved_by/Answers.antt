@@ -10,5 +10,5 @@ returns-clause-word c = λ f x.
     (λ all k run is t l.
     c.shift-op.ensures.word _ _ _ _
     ∙ ap (moved c.args.way c.args.width (f run t)) c.min.ensures
-    ∙ moved_most c.args.way c.args.width (f run t) c.args.places c.requires.high (value_fits _ _ all run t _ _ f x (back c.in_ok-y.ensures.grows k) is l))
+    ∙ moved_most c.args.way c.args.width (f run t) c.args.places c.requires.high (value_fits _ _ all run t _ _ f x (back c.in_ok-y.ensures.adds.grows k) is l))
     (c.in_ok-y.ensures.word f f x x)

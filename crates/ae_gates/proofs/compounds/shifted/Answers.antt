@@ -20,10 +20,10 @@ loop-i-preserved c =
     let i = c.loop-i.invariant in
     let a = i.few in
     let b = i.more in
-    let d = c.in_ok-y.ensures.few in
-    let e = c.in_ok-y.ensures.more in
+    let d = c.in_ok-y.ensures.adds.few in
+    let e = c.in_ok-y.ensures.adds.more in
     record {
-      grows = grows_trans i.grows c.in_ok-y.ensures.grows;
+      grows = grows_trans i.grows c.in_ok-y.ensures.adds.grows;
       more = omega arith;
       few = omega arith;
       net = c.in_ok-y.ensures.net;

@@ -1,19 +1,8 @@
-use Rattle.std.proofs.Common.{refl, arith}
-use Rattle.ae_netlist.specs.declared.cell.Cell.TheVariants.{Const}
-use Rattle.ae_gates.proofs.Words.{grows_push, longer, pushed_net, fixed_word}
+use Rattle.ae_gates.proofs.Words.{fixed_word, gates_added}
 use Rattle.ae_gates.proofs.gates.fixed.Goals as goal
 
-pub returns-clause-grows : goal.returns-clause-grows
-returns-clause-grows c = grows_push _ _ _ refl refl c.in_ok-y.ensures.added
-
-pub returns-clause-more : goal.returns-clause-more
-returns-clause-more c = let e = longer _ _ _ c.in_ok-y.ensures.added in omega arith
-
-pub returns-clause-few : goal.returns-clause-few
-returns-clause-few c = let e = longer _ _ _ c.in_ok-y.ensures.added in omega arith
-
-pub returns-clause-net : goal.returns-clause-net
-returns-clause-net c = pushed_net _ _ _ _ (Const c.args.word) tt c.in_ok-y.ensures.ok c.in_ok-y.ensures.added
+pub returns-clause-adds : goal.returns-clause-adds
+returns-clause-adds c = gates_added c.in_ok-y.ensures.adds c.in_ok-y.ensures.registers
 
 pub returns-clause-word : goal.returns-clause-word
-returns-clause-word c = fixed_word _ _ _ _ _ _ c.requires.from c.in_ok-y.ensures.ok c.in_ok-y.ensures.added
+returns-clause-word c = fixed_word _ _ _ _ _ _ c.requires.from c.in_ok-y.ensures.net c.in_ok-y.ensures.words

@@ -1,23 +1,10 @@
-use Rattle.std.proofs.Common.{◌∷◌, [], refl, arith}
-use Rattle.ae_word.specs.declared.op.WordOp.TheVariants.{Mux}
-use Rattle.ae_netlist.specs.declared.cell.Cell.TheVariants.{Op}
-use Rattle.ae_gates.proofs.Words.{grows_push, longer, pushed_net, choose_operation, select_word}
+use Rattle.ae_gates.proofs.Words.{gates_added, select_word}
 use Rattle.ae_gates.proofs.gates.select.Goals as goal
 
-pub push-requires-clause-allowed : goal.push-requires-clause-allowed
-push-requires-clause-allowed c = choose_operation _ _ _ _ _ c.requires.bit c.requires.left c.requires.right
-
-pub returns-clause-grows : goal.returns-clause-grows
-returns-clause-grows c = grows_push _ _ _ refl refl c.in_ok-y.ensures.added
-
-pub returns-clause-more : goal.returns-clause-more
-returns-clause-more c = let e = longer _ _ _ c.in_ok-y.ensures.added in omega arith
-
-pub returns-clause-few : goal.returns-clause-few
-returns-clause-few c = let e = longer _ _ _ c.in_ok-y.ensures.added in omega arith
-
-pub returns-clause-net : goal.returns-clause-net
-returns-clause-net c = pushed_net _ _ _ _ (Op Mux (c.args.bit ∷ c.args.a ∷ c.args.b ∷ [])) tt c.in_ok-y.ensures.ok c.in_ok-y.ensures.added
+pub returns-clause-adds : goal.returns-clause-adds
+returns-clause-adds c = gates_added c.in_ok-y.ensures.adds c.in_ok-y.ensures.registers
 
 pub returns-clause-word : goal.returns-clause-word
-returns-clause-word c = select_word _ _ _ _ c.args.bit c.args.a c.args.b _ c.requires.from c.in_ok-y.ensures.ok c.in_ok-y.ensures.added
+returns-clause-word c =
+    let adds = gates_added c.in_ok-y.ensures.adds c.in_ok-y.ensures.registers in
+    select_word _ _ _ _ _ c.args.bit c.args.a c.args.b c.requires.from adds.grows c.in_ok-y.ensures.net c.in_ok-y.ensures.words

@@ -1,8 +1,8 @@
 -- One column more.
-use Rattle.std.proofs.Common.{◌≡◌, ◌+◌, length, slice_get, get_or, false, if◌then◌else◌, Some, refl, arith, rules}
+use Rattle.std.proofs.Common.{ap, ◌≡◌, ◌+◌, length, slice_get, get_or, false, if◌then◌else◌, Some, refl, arith, rules}
 use Rattle.std.proofs.lemmas.Option.{slice_get_read, slice_get-get_or}
-use Rattle.ae_clocked.proofs.Adding.{adds_most, adds_none, adds_trans}
-use Rattle.ae_clocked.specs.Signals.{Adds}
+use Rattle.ae_gates.proofs.Adding.{adds_most, adds_none, adds_trans}
+use Rattle.ae_gates.specs.Cells.{Adds}
 use Rattle.ae_columns.specs.Plans.{choice_in, steps_cells}
 use Rattle.ae_clocked.specs.Phases.{made_of}
 use Rattle.ae_clocked.proofs.Belonging.{keeps_same}
@@ -74,30 +74,6 @@ returns-clause-adds c = adds_most _ (omega (arith, sum_part steps_cells c.args.c
 pub returns-clause-columns : goal.returns-clause-columns
 returns-clause-columns c = columns_whole _ _ c.loop-q.q _ _ _ _ c.args.columns.now _ (omega (arith, c.loop-q-test.false)) c.loop-q.invariant.columns
 
-pub returns-in_err-net-clause-adds : goal.returns-in_err-net-clause-adds
-returns-in_err-net-clause-adds c =
-    let there : slice_get c.args.columns.now c.loop-q.q ≡ Some c.index-columns-q.result = slice_get_read c.args.columns.now
-    (length c.args.columns.now) c.loop-q.q c.index-columns-q.result refl c.loop-q-test.true c.index-columns-q.is in
-    let cost : Adds c.loop-q.nl c.column.new.nl (steps_cells c.index-columns-q.result + 3) 0 = rw c.all.ensures at c.in_err-net.ensures.adds in
-    adds_most _ (omega (
-      arith,
-      sum_next steps_cells c.args.columns.now c.loop-q.q _ there,
-      sum_part steps_cells c.args.columns.now (c.loop-q.q + 1),
-      c.loop-q-test.true,
-    )) (adds_trans c.loop-q.invariant.adds cost)
-
-pub returns-in_err-push-clause-adds : goal.returns-in_err-push-clause-adds
-returns-in_err-push-clause-adds c =
-    let there : slice_get c.args.columns.now c.loop-q.q ≡ Some c.index-columns-q.result = slice_get_read c.args.columns.now
-    (length c.args.columns.now) c.loop-q.q c.index-columns-q.result refl c.loop-q-test.true c.index-columns-q.is in
-    let cost : Adds c.loop-q.nl c.column.new.nl (steps_cells c.index-columns-q.result + 3) 0 = rw c.all.ensures at c.in_ok-net.ensures.adds in
-    adds_most _ (omega (
-      arith,
-      sum_next steps_cells c.args.columns.now c.loop-q.q _ there,
-      sum_part steps_cells c.args.columns.now (c.loop-q.q + 1),
-      c.loop-q-test.true,
-    )) (adds_trans c.loop-q.invariant.adds cost)
-
 pub returns-clause-belongs : goal.returns-clause-belongs
 returns-clause-belongs c = c.loop-q.invariant.belongs
 
@@ -109,14 +85,18 @@ returns-clause-counted c =
     counted_most _ _ (sum_part (λ is. if is then 1 else 0) c.args.early.now c.loop-q.q) (sum_part steps_tests c.args.columns.now c.loop-q.q)
     c.loop-q.invariant.counted
 
-pub returns-in_err-net-clause-belongs : goal.returns-in_err-net-clause-belongs
-returns-in_err-net-clause-belongs c = c.in_err-net.ensures.belongs
-
-pub returns-in_err-net-clause-keeps : goal.returns-in_err-net-clause-keeps
-returns-in_err-net-clause-keeps c = keeps_trans c.loop-q.invariant.keeps c.in_err-net.ensures.keeps
-
-pub returns-in_err-push-clause-belongs : goal.returns-in_err-push-clause-belongs
-returns-in_err-push-clause-belongs c = c.in_ok-net.ensures.belongs
-
-pub returns-in_err-push-clause-keeps : goal.returns-in_err-push-clause-keeps
-returns-in_err-push-clause-keeps c = keeps_trans c.loop-q.invariant.keeps c.in_ok-net.ensures.keeps
+pub column-requires-clause-room : goal.column-requires-clause-room
+column-requires-clause-room c =
+    let there : slice_get c.args.columns.now c.loop-q.q ≡ Some c.index-columns-q.result = slice_get_read c.args.columns.now
+    (length c.args.columns.now) c.loop-q.q c.index-columns-q.result refl c.loop-q-test.true c.index-columns-q.is in
+    let steps = ap steps_cells c.all.ensures in
+    omega (
+      arith,
+      c.requires.room,
+      c.loop-q.invariant.adds.cells,
+      c.loop-q.invariant.adds.grows.limit,
+      steps,
+      sum_next steps_cells c.args.columns.now c.loop-q.q _ there,
+      sum_part steps_cells c.args.columns.now (c.loop-q.q + 1),
+      c.loop-q-test.true,
+    )

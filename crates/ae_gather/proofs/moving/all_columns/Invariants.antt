@@ -1,5 +1,5 @@
 use Rattle.std.proofs.Common.{◌+◌, ◌*◌, ◌≤◌, length, sum_by, take}
-use Rattle.ae_clocked.specs.Signals.{Adds}
+use Rattle.ae_gates.specs.Cells.{Adds}
 use Rattle.ae_clocked.specs.Phases.{Belongs, KeepsCounters, made_of}
 use Rattle.ae_columns.specs.Counts.{Counted, early_count, steps_tests}
 use Rattle.ae_columns.specs.Plans.{steps_cells}

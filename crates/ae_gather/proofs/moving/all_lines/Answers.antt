@@ -1,11 +1,11 @@
 -- One line more.
-use Rattle.std.proofs.Common.{ℕ, ◌≡◌, ◌∙◌, ◌+◌, ◌≤◌, length, slice_get, Some, refl, arith, rules}
+use Rattle.std.proofs.Common.{ap, ℕ, ◌≡◌, ◌+◌, ◌≤◌, length, slice_get, Some, refl, arith, rules}
 use Rattle.std.proofs.lemmas.Option.{slice_get_read}
 use Rattle.ae_netlist.specs.Circuit.{width_of}
 use Rattle.ae_netlist.proofs.Growing.{net_later}
 use Rattle.ae_clocked.specs.Delays.{AreTaps, line_cells}
-use Rattle.ae_clocked.proofs.Adding.{grows_refl, grows_trans}
-use Rattle.ae_clocked.proofs.Added.{own_net}
+use Rattle.ae_gates.proofs.Adding.{grows_refl, grows_trans}
+use Rattle.ae_gates.proofs.Added.{own_net}
 use Rattle.ae_clocked.proofs.Belonging.{keeps_same}
 use Rattle.ae_columns.specs.Columns.{net_of}
 use Rattle.ae_moves.proofs.Lists.{sum_next, sum_part}
@@ -18,18 +18,6 @@ use Rattle.ae_clocked.proofs.InRow.{keeps_trans}
 
 pub ring_line-requires-clause-belongs : goal.ring_line-requires-clause-belongs
 ring_line-requires-clause-belongs c = c.loop-q.invariant.belongs
-
-pub returns-in_err-tapped-clause-belongs : goal.returns-in_err-tapped-clause-belongs
-returns-in_err-tapped-clause-belongs c = c.in_err-tapped.ensures.belongs
-
-pub returns-in_err-tapped-clause-muls : goal.returns-in_err-tapped-clause-muls
-returns-in_err-tapped-clause-muls c = c.in_err-tapped.ensures.muls ∙ c.loop-q.invariant.muls
-
-pub returns-in_err-push-clause-belongs : goal.returns-in_err-push-clause-belongs
-returns-in_err-push-clause-belongs c = c.in_ok-tapped.ensures.belongs
-
-pub returns-in_err-push-clause-muls : goal.returns-in_err-push-clause-muls
-returns-in_err-push-clause-muls c = c.in_ok-tapped.ensures.muls ∙ c.loop-q.invariant.muls
 
 pub returns-clause-belongs : goal.returns-clause-belongs
 returns-clause-belongs c = c.loop-q.invariant.belongs
@@ -70,48 +58,6 @@ ring_line-requires-clause-few c =
     (length c.args.ages.now) c.loop-q.q c.index-ages-q.result refl c.loop-q-test.true c.index-ages-q.is in
     rw c.all.ensures (c.requires.few c.loop-q.q _ there)
 
-pub returns-in_err-tapped-clause-keeps : goal.returns-in_err-tapped-clause-keeps
-returns-in_err-tapped-clause-keeps c = keeps_trans c.loop-q.invariant.keeps c.in_err-tapped.ensures.keeps
-
-pub returns-in_err-tapped-clause-grows : goal.returns-in_err-tapped-clause-grows
-returns-in_err-tapped-clause-grows c = grows_trans c.loop-q.invariant.grows c.in_err-tapped.ensures.grows
-
-pub returns-in_err-push-clause-keeps : goal.returns-in_err-push-clause-keeps
-returns-in_err-push-clause-keeps c = keeps_trans c.loop-q.invariant.keeps c.in_ok-tapped.ensures.keeps
-
-pub returns-in_err-push-clause-grows : goal.returns-in_err-push-clause-grows
-returns-in_err-push-clause-grows c = grows_trans c.loop-q.invariant.grows c.in_ok-tapped.ensures.grows
-
-pub returns-in_err-tapped-clause-cells : goal.returns-in_err-tapped-clause-cells
-returns-in_err-tapped-clause-cells c =
-    let there : slice_get c.args.ages.now c.loop-q.q ≡ Some c.index-ages-q.result = slice_get_read c.args.ages.now
-    (length c.args.ages.now) c.loop-q.q c.index-ages-q.result refl c.loop-q-test.true c.index-ages-q.is in
-    let cost : length c.ring_line.new.nl.cells ≤ length c.loop-q.nl.cells + line_cells c.index-ages-q.result = rw c.all.ensures at
-    c.in_err-tapped.ensures.cells in
-    omega (arith, c.loop-q.invariant.cells, cost, sum_next line_cells c.args.ages.now c.loop-q.q _ there, sum_part line_cells c.args.ages.now (c.loop-q.q + 1))
-
-pub returns-in_err-push-clause-cells : goal.returns-in_err-push-clause-cells
-returns-in_err-push-clause-cells c =
-    let there : slice_get c.args.ages.now c.loop-q.q ≡ Some c.index-ages-q.result = slice_get_read c.args.ages.now
-    (length c.args.ages.now) c.loop-q.q c.index-ages-q.result refl c.loop-q-test.true c.index-ages-q.is in
-    let cost : length c.ring_line.new.nl.cells ≤ length c.loop-q.nl.cells + line_cells c.index-ages-q.result = rw c.all.ensures at
-    c.in_ok-tapped.ensures.cells in
-    omega (arith, c.loop-q.invariant.cells, cost, sum_next line_cells c.args.ages.now c.loop-q.q _ there, sum_part line_cells c.args.ages.now (c.loop-q.q + 1))
-
-pub returns-in_err-tapped-clause-memories : goal.returns-in_err-tapped-clause-memories
-returns-in_err-tapped-clause-memories c =
-    let there : slice_get c.args.ages.now c.loop-q.q ≡ Some c.index-ages-q.result = slice_get_read c.args.ages.now
-    (length c.args.ages.now) c.loop-q.q c.index-ages-q.result refl c.loop-q-test.true c.index-ages-q.is in
-    let mems = rw c.all.ensures at c.in_err-tapped.ensures.memories in
-    omega (arith, c.loop-q.invariant.memories, mems, sum_next line_mems c.args.ages.now c.loop-q.q _ there, sum_part line_mems c.args.ages.now (c.loop-q.q + 1))
-
-pub returns-in_err-push-clause-memories : goal.returns-in_err-push-clause-memories
-returns-in_err-push-clause-memories c =
-    let there : slice_get c.args.ages.now c.loop-q.q ≡ Some c.index-ages-q.result = slice_get_read c.args.ages.now
-    (length c.args.ages.now) c.loop-q.q c.index-ages-q.result refl c.loop-q-test.true c.index-ages-q.is in
-    let mems = rw c.all.ensures at c.in_ok-tapped.ensures.memories in
-    omega (arith, c.loop-q.invariant.memories, mems, sum_next line_mems c.args.ages.now c.loop-q.q _ there, sum_part line_mems c.args.ages.now (c.loop-q.q + 1))
-
 pub loop-q-preserved : goal.loop-q-preserved
 loop-q-preserved c =
     let was = c.loop-q.invariant in
@@ -151,3 +97,18 @@ returns-clause-lines c = lines_whole _ _ c.loop-q.q _ c.args.ages.now _ (omega (
 
 pub returns-clause-memories : goal.returns-clause-memories
 returns-clause-memories c = omega (arith, c.loop-q.invariant.memories, sum_part line_mems c.args.ages.now c.loop-q.q)
+
+pub ring_line-requires-clause-room : goal.ring_line-requires-clause-room
+ring_line-requires-clause-room c =
+    let there : slice_get c.args.ages.now c.loop-q.q ≡ Some c.index-ages-q.result = slice_get_read c.args.ages.now
+    (length c.args.ages.now) c.loop-q.q c.index-ages-q.result refl c.loop-q-test.true c.index-ages-q.is in
+    let taps = ap line_cells c.all.ensures in
+    omega (
+      arith,
+      c.requires.room,
+      c.loop-q.invariant.cells,
+      c.loop-q.invariant.grows.limit,
+      taps,
+      sum_next line_cells c.args.ages.now c.loop-q.q _ there,
+      sum_part line_cells c.args.ages.now (c.loop-q.q + 1),
+    )

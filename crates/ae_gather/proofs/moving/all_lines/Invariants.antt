@@ -1,6 +1,6 @@
 use Rattle.std.proofs.Common.{◌≡◌, ◌+◌, ◌≤◌, length, sum_by, take}
 use Rattle.ae_netlist.specs.Counts.{AreWhole, count_of, is_memory, is_mul}
-use Rattle.ae_clocked.specs.Signals.{Grows}
+use Rattle.ae_gates.specs.Cells.{Grows}
 use Rattle.ae_clocked.specs.Phases.{Belongs, KeepsCounters, made_of}
 use Rattle.ae_columns.specs.Counts.{Counted}
 use Rattle.ae_gather.specs.Counts.{line_registers}

@@ -1,9 +1,9 @@
 -- The counters, the lines and the columns of a plan.
-use Rattle.std.proofs.Common.{ℕ, ◌≡◌, ◌+◌, ◌*◌, ◌≤◌, min, sum_by, length, arith, ap, refl, sym, ◌∙◌}
+use Rattle.std.proofs.Common.{ℕ, ◌≡◌, ◌+◌, ◌*◌, ◌≤◌, min, sum_by, length, arith, ap, sym, ◌∙◌}
 use Rattle.std.proofs.lemmas.Option.{slice_get_within}
 use Rattle.ae_netlist.proofs.Growing.{net_later}
 use Rattle.ae_clocked.specs.Delays.{line_cells}
-use Rattle.ae_clocked.proofs.Adding.{grows_trans}
+use Rattle.ae_gates.proofs.Adding.{grows_trans}
 use Rattle.ae_columns.specs.Plans.{IsPlan, line_mems, steps_cells}
 use Rattle.ae_gather.proofs.Building.{begun_of, fitting_grows, steps_ready}
 use Rattle.ae_columns.proofs.Choosing.{phase_grows}
@@ -15,12 +15,6 @@ use Rattle.ae_clocked.proofs.InRow.{keeps_trans}
 
 -- ---- what is added, from what the counters, the lines and the columns add
 
-counters_room : (a b m n l s k : ℕ) → m ≡ n → b ≤ a + m → b ≤ a + (n + l + s + k)
-counters_room a b m n l s k e h = omega arith
-
-lines_room : (a b c m n i l s k : ℕ) → m ≡ n → i ≡ l → b ≤ a + m → c ≤ b + i → c ≤ a + (n + l + s + k)
-lines_room a b c m n i l s k e f h g = omega arith
-
 columns_room : (a b c d m n i l j s o k : ℕ) → m ≡ n → i ≡ l → j ≡ s → o ≡ k → b ≤ a + m → c ≤ b + i → d ≤ c + (j + o) → d ≤ a + (n + l + s + k)
 columns_room a b c d m n i l j s o k e f p q h g r = omega arith
 
@@ -30,52 +24,8 @@ no_more a b h = omega arith
 memories_room : (a b c d i l : ℕ) → i ≡ l → b ≡ a → c ≤ b + i → d ≡ c → d ≤ a + l
 memories_room a b c d i l e h g r = omega arith
 
-same_room : (a b l : ℕ) → b ≡ a → b ≤ a + l
-same_room a b l h = omega arith
-
 pub limit_of-limit-requires : goal.limit_of-limit-requires
 limit_of-limit-requires c = record { within = c.requires.within.clock }
-
-pub returns-in_err-counters-clause-grows : goal.returns-in_err-counters-clause-grows
-returns-in_err-counters-clause-grows c = c.in_err-counters.ensures.adds.grows
-
-pub returns-in_err-counters-clause-cells : goal.returns-in_err-counters-clause-cells
-returns-in_err-counters-clause-cells c =
-    counters_room _ _ _ _ _ _ _ (ap (λ xs. 12 * min 2 (length xs)) c.deref.ensures.value ∙ ap (λ n. 12 * min 2 n) c.requires.early)
-    c.in_err-counters.ensures.adds.cells
-
-pub returns-in_err-counters-clause-muls : goal.returns-in_err-counters-clause-muls
-returns-in_err-counters-clause-muls c = no_more _ _ c.in_err-counters.ensures.adds.muls
-
-pub returns-in_err-counters-clause-memories : goal.returns-in_err-counters-clause-memories
-returns-in_err-counters-clause-memories c = same_room _ _ _ c.in_err-counters.ensures.adds.memories
-
-pub returns-in_err-lines-clause-cells : goal.returns-in_err-lines-clause-cells
-returns-in_err-lines-clause-cells c =
-    lines_room _ _ _ _ _ _ _ _ _ (ap (λ xs. 12 * min 2 (length xs)) c.deref.ensures.value ∙ ap (λ n. 12 * min 2 n) c.requires.early)
-    (ap (sum_by line_cells) c.deref-2.ensures.value) c.in_ok-counters.ensures.adds.cells c.in_err-lines.ensures.cells
-
-pub returns-in_err-lines-clause-muls : goal.returns-in_err-lines-clause-muls
-returns-in_err-lines-clause-muls c = c.in_err-lines.ensures.muls ∙ no_more _ _ c.in_ok-counters.ensures.adds.muls
-
-pub returns-in_err-lines-clause-memories : goal.returns-in_err-lines-clause-memories
-returns-in_err-lines-clause-memories c =
-    memories_room _ _ _ _ _ _ (ap (sum_by line_mems) c.deref-2.ensures.value) c.in_ok-counters.ensures.adds.memories c.in_err-lines.ensures.memories refl
-
-pub returns-in_err-out-clause-cells : goal.returns-in_err-out-clause-cells
-returns-in_err-out-clause-cells c =
-    columns_room _ _ _ _ _ _ _ _ _ _ _ _ (ap (λ xs. 12 * min 2 (length xs)) c.deref.ensures.value ∙ ap (λ n. 12 * min 2 n) c.requires.early)
-    (ap (sum_by line_cells) c.deref-2.ensures.value)
-    (ap (sum_by steps_cells) c.deref-4.ensures.value) (ap (λ xs. 3 * length xs) c.deref-4.ensures.value) c.in_ok-counters.ensures.adds.cells
-    c.in_ok-lines.ensures.cells c.in_err-out.ensures.adds.cells
-
-pub returns-in_err-out-clause-muls : goal.returns-in_err-out-clause-muls
-returns-in_err-out-clause-muls c = no_more _ _ c.in_err-out.ensures.adds.muls ∙ (c.in_ok-lines.ensures.muls ∙ no_more _ _ c.in_ok-counters.ensures.adds.muls)
-
-pub returns-in_err-out-clause-memories : goal.returns-in_err-out-clause-memories
-returns-in_err-out-clause-memories c =
-    memories_room _ _ _ _ _ _ (ap (sum_by line_mems) c.deref-2.ensures.value) c.in_ok-counters.ensures.adds.memories c.in_ok-lines.ensures.memories
-    c.in_err-out.ensures.adds.memories
 
 pub returns-clause-cells : goal.returns-clause-cells
 returns-clause-cells c =
@@ -117,12 +67,6 @@ counters-requires-clause-some c = omega (arith, c.requires.some, c.requires.earl
 pub all_lines-requires-clause-nets : goal.all_lines-requires-clause-nets
 all_lines-requires-clause-nets c = λ q l. let n = c.requires.nets q l in (n.0, net_later c.in_ok-counters.ensures.adds.grows.extends n.1)
 
-pub returns-in_err-lines-clause-keeps : goal.returns-in_err-lines-clause-keeps
-returns-in_err-lines-clause-keeps c = keeps_trans c.in_ok-counters.ensures.keeps c.in_err-lines.ensures.keeps
-
-pub returns-in_err-lines-clause-grows : goal.returns-in_err-lines-clause-grows
-returns-in_err-lines-clause-grows c = grows_trans c.in_ok-counters.ensures.adds.grows c.in_err-lines.ensures.grows
-
 pub all_columns-requires-clause-phases : goal.all_columns-requires-clause-phases
 all_columns-requires-clause-phases c = λ q l.
     let early = c.deref-5.ensures.value in
@@ -137,7 +81,7 @@ all_columns-requires-clause-begun c =
 pub all_columns-requires-clause-ready : goal.all_columns-requires-clause-ready
 all_columns-requires-clause-ready c = λ q w steps there wide.
     let lines = c.in_ok-lines.ensures.lines in
-    let plan : IsPlan c.args.d c.args.schedule.now.moved.items c.deref-2.result.now
+    let plan : IsPlan c.args.times.latency c.args.schedule.now.moved.items c.deref-2.result.now
     c.deref-4.result.now = rw (c.deref-2.ensures.value, c.deref-4.ensures.value) c.requires.plan in
     let grown = fitting_grows _ _ c.args.ins.now c.args.widths.now c.args.trips.now
     (grows_trans c.in_ok-counters.ensures.adds.grows c.in_ok-lines.ensures.grows).extends c.requires.fitting in
@@ -149,17 +93,8 @@ all_columns-requires-clause-ready c = λ q w steps there wide.
     let has = rw c.deref.ensures.value at (c.in_ok-counters.ensures.counters q
     (omega (arith, inside, c.requires.early, c.requires.columns, ap length c.deref.ensures.value, ap length c.deref-4.ensures.value))) in
     rw (c.in_ok-lines.ensures.keeps.rst, c.deref-3.ensures.value, c.deref-5.ensures.value, has.limits)
-    (steps_ready _ _ w q c.limit_of-limit.result c.args.d c.args.ins.now c.args.widths.now c.args.schedule.now.moved.items c.deref-2.result.now _
+    (steps_ready _ _ w q c.limit_of-limit.result c.args.times.latency c.args.ins.now c.args.widths.now c.args.schedule.now.moved.items c.deref-2.result.now _
     c.deref-4.result.now steps lines fitting below plan there wide)
-
-pub returns-in_err-out-clause-belongs : goal.returns-in_err-out-clause-belongs
-returns-in_err-out-clause-belongs c = c.in_err-out.ensures.belongs
-
-pub returns-in_err-out-clause-keeps : goal.returns-in_err-out-clause-keeps
-returns-in_err-out-clause-keeps c = keeps_trans (keeps_trans c.in_ok-counters.ensures.keeps c.in_ok-lines.ensures.keeps) c.in_err-out.ensures.keeps
-
-pub returns-in_err-out-clause-grows : goal.returns-in_err-out-clause-grows
-returns-in_err-out-clause-grows c = grows_trans c.in_ok-counters.ensures.adds.grows (grows_trans c.in_ok-lines.ensures.grows c.in_err-out.ensures.adds.grows)
 
 pub returns-clause-belongs : goal.returns-clause-belongs
 returns-clause-belongs c = c.in_ok-out.ensures.belongs
@@ -176,12 +111,12 @@ returns-clause-nets c =
 
 pub returns-clause-trips : goal.returns-clause-trips
 returns-clause-trips c =
-    let plan : IsPlan c.args.d c.args.schedule.now.moved.items c.deref-2.result.now
+    let plan : IsPlan c.args.times.latency c.args.schedule.now.moved.items c.deref-2.result.now
     c.deref-4.result.now = rw (c.deref-2.ensures.value, c.deref-4.ensures.value) c.requires.plan in
     let g = grows_trans c.in_ok-lines.ensures.grows c.in_ok-out.ensures.adds.grows in
     let columns = rw (c.in_ok-lines.ensures.keeps.rst, c.in_ok-counters.ensures.keeps.rst, c.deref-5.ensures.value) at c.in_ok-out.ensures.columns in
-    columns_trips _ _ c.args.period c.args.d c.args.arrival c.limit_of-limit.result _ _ c.in_ok-counters.counters c.args.ins.now _ c.args.widths.now
-    c.args.schedule.now.early.items c.args.trips.now c.args.schedule.now.moved.items c.deref-2.result.now c.deref-4.result.now
+    columns_trips _ _ c.args.times.period c.args.times.latency c.args.times.arrival c.limit_of-limit.result _ _ c.in_ok-counters.counters c.args.ins.now _
+    c.args.widths.now c.args.schedule.now.early.items c.args.trips.now c.args.schedule.now.moved.items c.deref-2.result.now c.deref-4.result.now
     c.requires.moved c.requires.time c.requires.within c.limit_of-limit.ensures.below plan
     (omega (arith, c.requires.columns, ap length c.deref-4.ensures.value))
     (λ q l. has_grows _ _ _ _ _ _ _ _ g.extends (rw c.deref.ensures.value at
@@ -199,3 +134,36 @@ returns-clause-counted c =
     let lines = rw c.deref-2.ensures.value at c.in_ok-lines.ensures.counted in
     let columns = rw (c.deref-4.ensures.value, c.deref-5.ensures.value) at c.in_ok-out.ensures.counted in
     counted_most _ _ (omega arith) (omega arith) (counted_trans (counted_trans c.in_ok-counters.ensures.counted lines) columns)
+
+pub counters-requires-clause-room : goal.counters-requires-clause-room
+counters-requires-clause-room c =
+    let twelve : 12 * min 2 (length c.deref.result.now) ≡ 12 * min 2 (length c.args.widths.now) = ap (λ xs. 12 * min 2 (length xs)) c.deref.ensures.value
+    ∙ ap (λ n. 12 * min 2 n) c.requires.early in
+    omega (arith, c.requires.room, twelve)
+
+pub all_lines-requires-clause-room : goal.all_lines-requires-clause-room
+all_lines-requires-clause-room c =
+    let twelve : 12 * min 2 (length c.deref.result.now) ≡ 12 * min 2 (length c.args.widths.now) = ap (λ xs. 12 * min 2 (length xs)) c.deref.ensures.value
+    ∙ ap (λ n. 12 * min 2 n) c.requires.early in
+    let lines = ap (sum_by line_cells) c.deref-2.ensures.value in
+    omega (arith, c.requires.room, twelve, lines, c.in_ok-counters.ensures.adds.cells, c.in_ok-counters.ensures.adds.grows.limit)
+
+pub all_columns-requires-clause-room : goal.all_columns-requires-clause-room
+all_columns-requires-clause-room c =
+    let twelve : 12 * min 2 (length c.deref.result.now) ≡ 12 * min 2 (length c.args.widths.now) = ap (λ xs. 12 * min 2 (length xs)) c.deref.ensures.value
+    ∙ ap (λ n. 12 * min 2 n) c.requires.early in
+    let lines = ap (sum_by line_cells) c.deref-2.ensures.value in
+    let steps = ap (sum_by steps_cells) c.deref-4.ensures.value in
+    let long = ap length c.deref-4.ensures.value in
+    omega (
+      arith,
+      c.requires.room,
+      twelve,
+      lines,
+      steps,
+      long,
+      c.in_ok-counters.ensures.adds.cells,
+      c.in_ok-counters.ensures.adds.grows.limit,
+      c.in_ok-lines.ensures.cells,
+      c.in_ok-lines.ensures.grows.limit,
+    )

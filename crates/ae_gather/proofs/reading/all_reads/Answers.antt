@@ -1,10 +1,10 @@
 -- One read more.
-use Rattle.std.proofs.Common.{ℕ, ◌+◌, ◌*◌, ◌<◌, ◌≤◌, length, None, arith}
+use Rattle.std.proofs.Common.{◌<◌, length, None, arith}
 use Rattle.std.proofs.lemmas.Option.{slice_get-get_or}
 use Rattle.ae_moves.proofs.Lists.{sum_next, sum_part}
 use Rattle.ae_gather.specs.Counts.{reader_registers}
 use Rattle.ae_columns.proofs.Counted.{counted_most, counted_trans}
-use Rattle.ae_clocked.proofs.Adding.{adds_most, adds_trans, net_added}
+use Rattle.ae_gates.proofs.Adding.{adds_most, adds_trans, net_added}
 use Rattle.ae_gather.proofs.Ringing.{reads_more, reads_whole, rings_grow}
 use Rattle.ae_gather.proofs.reading.all_reads.Goals as goal
 
@@ -32,20 +32,12 @@ returns-clause-counted c =
     counted_most _ _ (sum_part (reader_registers c.args.reads.now.rings.items) c.args.reads.now.from.items c.loop-q.q) (omega arith)
     c.loop-q.invariant.counted
 
-read_room : (q n : ℕ) → q < n → 3 * q + 3 ≤ 3 * n
-read_room q n h = omega arith
-
 pub read_net-requires-clause-place : goal.read_net-requires-clause-place
 read_net-requires-clause-place c =
     let l : c.loop-q.q < length c.args.reads.now.from.items = omega (arith, c.loop-q-test.true, c.len-q-end.ensures) in
     net_added c.loop-q.invariant.adds (c.requires.places c.loop-q.q l)
 
-pub returns-in_err-net-clause-adds : goal.returns-in_err-net-clause-adds
-returns-in_err-net-clause-adds c =
+pub read_net-requires-clause-room : goal.read_net-requires-clause-room
+read_net-requires-clause-room c =
     let l : c.loop-q.q < length c.args.reads.now.from.items = omega (arith, c.loop-q-test.true, c.len-q-end.ensures) in
-    adds_most _ (read_room _ _ l) (adds_trans c.loop-q.invariant.adds c.in_err-net.ensures.adds)
-
-pub returns-in_err-push-clause-adds : goal.returns-in_err-push-clause-adds
-returns-in_err-push-clause-adds c =
-    let l : c.loop-q.q < length c.args.reads.now.from.items = omega (arith, c.loop-q-test.true, c.len-q-end.ensures) in
-    adds_most _ (read_room _ _ l) (adds_trans c.loop-q.invariant.adds c.in_ok-net.ensures.adds)
+    omega (arith, c.requires.room, c.loop-q.invariant.adds.cells, c.loop-q.invariant.adds.grows.limit, l)

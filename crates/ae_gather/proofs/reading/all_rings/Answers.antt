@@ -3,7 +3,7 @@ use Rattle.std.proofs.Common.{◌≡◌, ◌≤◌, ◌+◌, Bool, false, cond, 
 use Rattle.std.proofs.lemmas.List.{take_all}
 use Rattle.std.proofs.lemmas.Option.{get_or_from_slice_get, slice_get_read}
 use Rattle.ae_netlist.proofs.Growing.{net_later}
-use Rattle.ae_clocked.proofs.Added.{own_net}
+use Rattle.ae_gates.proofs.Added.{own_net}
 use Rattle.ae_clocked.proofs.Making.{memories_most, memories_trans}
 use Rattle.ae_moves.proofs.Lists.{sum_next, sum_part}
 use Rattle.ae_gather.proofs.Ringing.{rings_more}
@@ -13,36 +13,6 @@ use Rattle.ae_clocked.proofs.InRow.{keeps_trans}
 
 pub ring_of-requires-clause-net : goal.ring_of-requires-clause-net
 ring_of-requires-clause-net c = own_net (net_later c.loop-q.invariant.adds.grows.extends (c.requires.nets c.loop-q.q c.loop-q-test.true).1)
-
-pub returns-in_err-ring-clause-adds : goal.returns-in_err-ring-clause-adds
-returns-in_err-ring-clause-adds c =
-    let has : Bool = c.index.result.now in
-    let there : slice_get c.args.reads.now.rings.items c.loop-q.q ≡ Some has = slice_get_read c.args.reads.now.rings.items
-    (length c.args.reads.now.rings.items) c.loop-q.q has refl (omega (arith, c.loop-q-test.true, c.requires.long)) c.index.ensures in
-    let more = sum_next (λ (x : Bool). cond x 1 0) c.args.reads.now.rings.items c.loop-q.q has there in
-    let part = sum_part (λ (x : Bool). cond x 1 0) c.args.reads.now.rings.items (c.loop-q.q + 1) in
-    memories_most _ _ (omega (arith, more, part)) (omega (arith, more, part)) (memories_trans c.loop-q.invariant.adds c.in_err-ring.ensures.adds)
-
-pub returns-in_err-push-clause-adds : goal.returns-in_err-push-clause-adds
-returns-in_err-push-clause-adds c =
-    let has : Bool = c.index.result.now in
-    let there : slice_get c.args.reads.now.rings.items c.loop-q.q ≡ Some has = slice_get_read c.args.reads.now.rings.items
-    (length c.args.reads.now.rings.items) c.loop-q.q has refl (omega (arith, c.loop-q-test.true, c.requires.long)) c.index.ensures in
-    let more = sum_next (λ (x : Bool). cond x 1 0) c.args.reads.now.rings.items c.loop-q.q has there in
-    let part = sum_part (λ (x : Bool). cond x 1 0) c.args.reads.now.rings.items (c.loop-q.q + 1) in
-    memories_most _ _ (omega (arith, more, part)) (omega (arith, more, part)) (memories_trans c.loop-q.invariant.adds c.in_ok-ring.ensures.adds)
-
-pub returns-in_err-ring-clause-belongs : goal.returns-in_err-ring-clause-belongs
-returns-in_err-ring-clause-belongs c = c.in_err-ring.ensures.belongs
-
-pub returns-in_err-ring-clause-keeps : goal.returns-in_err-ring-clause-keeps
-returns-in_err-ring-clause-keeps c = keeps_trans c.loop-q.invariant.keeps c.in_err-ring.ensures.keeps
-
-pub returns-in_err-push-clause-belongs : goal.returns-in_err-push-clause-belongs
-returns-in_err-push-clause-belongs c = c.in_ok-ring.ensures.belongs
-
-pub returns-in_err-push-clause-keeps : goal.returns-in_err-push-clause-keeps
-returns-in_err-push-clause-keeps c = keeps_trans c.loop-q.invariant.keeps c.in_ok-ring.ensures.keeps
 
 pub returns-clause-belongs : goal.returns-clause-belongs
 returns-clause-belongs c = c.loop-q.invariant.belongs
@@ -72,3 +42,12 @@ loop-q-preserved c =
       rings = rw c.in_ok-push.ensures.items (rings_more c.loop-q.q _ _ _ _ _ _ _ has new.adds.grows.extends was.rings (rw was.keeps.rst at new.ring) new.has
           (get_or_from_slice_get c.args.reads.now.rings.items c.loop-q.q has false there));
     }
+
+pub ring_of-requires-clause-room : goal.ring_of-requires-clause-room
+ring_of-requires-clause-room c =
+    let has : Bool = c.index.result.now in
+    let there : slice_get c.args.reads.now.rings.items c.loop-q.q ≡ Some has = slice_get_read c.args.reads.now.rings.items
+    (length c.args.reads.now.rings.items) c.loop-q.q has refl (omega (arith, c.loop-q-test.true, c.requires.long)) c.index.ensures in
+    let more = sum_next (λ (x : Bool). cond x 1 0) c.args.reads.now.rings.items c.loop-q.q has there in
+    let part = sum_part (λ (x : Bool). cond x 1 0) c.args.reads.now.rings.items (c.loop-q.q + 1) in
+    omega (arith, c.requires.room, c.loop-q.invariant.adds.cells, c.loop-q.invariant.adds.grows.limit, more, part)

@@ -1,7 +1,5 @@
 -- What is built with rings, where these take no more, and what is built without them.
 use Rattle.std.proofs.Common.{ℕ, ◌≡◌, ◌<◌, ◌≤◌, ◌+◌, ◌*◌, ◌^◌, arith}
-use Rattle.ae_clocked.proofs.Adding.{grows_refl}
-use Rattle.ae_clocked.proofs.Belonging.{keeps_same}
 use Rattle.ae_columns.proofs.Counted.{counted_most, tests_few}
 use Rattle.ae_gather.proofs.reading.build_best.Goals as goal
 
@@ -13,9 +11,6 @@ few_of a b n h l = omega arith
 
 both_few : (a b : ℕ) → a < 2147483648 → b < 2147483648 → a + b < 2 ^ 32
 both_few a b h l = omega arith
-
-none_room : (a m : ℕ) → a ≤ a + m
-none_room a m = omega arith
 
 rings_room : (a b r o s l p m x y k : ℕ) → k ≡ o → 12 + 14 * r + 6 * o + s + l + p ≤ x + y → b ≤ a + (12 + 14 * r + 6 * o + s + l + p + m + 3 * o) →
     b ≤ a + (m + x + y + 3 * k)
@@ -31,18 +26,6 @@ pub plan_reading-requires-clause-within : goal.plan_reading-requires-clause-with
 plan_reading-requires-clause-within c =
     let w = c.requires.within in
     record { clock = λ n t f. below_limit _ _ _ (w.clock n t f) c.requires.limit; column = w.column; reached = w.reached; source = w.source }
-
-pub returns-in_err-reading-clause-keeps : goal.returns-in_err-reading-clause-keeps
-returns-in_err-reading-clause-keeps c = keeps_same _
-
-pub returns-in_err-reading-clause-grows : goal.returns-in_err-reading-clause-grows
-returns-in_err-reading-clause-grows c = grows_refl _
-
-pub returns-in_err-reading-clause-cells : goal.returns-in_err-reading-clause-cells
-returns-in_err-reading-clause-cells c = none_room _ _
-
-pub returns-in_err-reading-clause-memories : goal.returns-in_err-reading-clause-memories
-returns-in_err-reading-clause-memories c = none_room _ _
 
 pub is_no_dearer-requires-clause-few : goal.is_no_dearer-requires-clause-few
 is_no_dearer-requires-clause-few c = λ q ages f. few_of _ _ _ (c.in_ok-reading.ensures.few q ages f) c.requires.few
@@ -85,28 +68,6 @@ build_reading-requires-clause-some c = c.requires.some
 
 pub build_reading-requires-clause-reading : goal.build_reading-requires-clause-reading
 build_reading-requires-clause-reading c = c.in_ok-reading.ensures
-
-pub returns-in_err-out-clause-belongs : goal.returns-in_err-out-clause-belongs
-returns-in_err-out-clause-belongs c = c.in_err-out.ensures.belongs
-
-pub returns-in_err-out-clause-keeps : goal.returns-in_err-out-clause-keeps
-returns-in_err-out-clause-keeps c = c.in_err-out.ensures.keeps
-
-pub returns-in_err-out-clause-grows : goal.returns-in_err-out-clause-grows
-returns-in_err-out-clause-grows c = c.in_err-out.ensures.grows
-
-pub returns-in_err-out-clause-muls : goal.returns-in_err-out-clause-muls
-returns-in_err-out-clause-muls c = c.in_err-out.ensures.muls
-
-pub returns-in_err-out-clause-cells : goal.returns-in_err-out-clause-cells
-returns-in_err-out-clause-cells c =
-    let n = c.is_no_dearer.ensures c.if-is_no_dearer.true in
-    rings_room _ _ _ _ _ _ _ _ _ _ _ c.requires.columns n.cells c.in_err-out.ensures.cells
-
-pub returns-in_err-out-clause-memories : goal.returns-in_err-out-clause-memories
-returns-in_err-out-clause-memories c =
-    let n = c.is_no_dearer.ensures c.if-is_no_dearer.true in
-    rings_memories _ _ _ _ n.memories c.in_err-out.ensures.memories
 
 pub returns-then-is_no_dearer-clause-belongs : goal.returns-then-is_no_dearer-clause-belongs
 returns-then-is_no_dearer-clause-belongs c = c.in_ok-out.ensures.belongs
@@ -190,24 +151,6 @@ build_plan-requires-clause-plan c = c.requires.plan
 pub build_plan-requires-clause-taps : goal.build_plan-requires-clause-taps
 build_plan-requires-clause-taps c = c.requires.taps
 
-pub returns-in_err-out-2-clause-belongs : goal.returns-in_err-out-2-clause-belongs
-returns-in_err-out-2-clause-belongs c = c.in_err-out-2.ensures.belongs
-
-pub returns-in_err-out-2-clause-keeps : goal.returns-in_err-out-2-clause-keeps
-returns-in_err-out-2-clause-keeps c = c.in_err-out-2.ensures.keeps
-
-pub returns-in_err-out-2-clause-grows : goal.returns-in_err-out-2-clause-grows
-returns-in_err-out-2-clause-grows c = c.in_err-out-2.ensures.grows
-
-pub returns-in_err-out-2-clause-cells : goal.returns-in_err-out-2-clause-cells
-returns-in_err-out-2-clause-cells c = c.in_err-out-2.ensures.cells
-
-pub returns-in_err-out-2-clause-muls : goal.returns-in_err-out-2-clause-muls
-returns-in_err-out-2-clause-muls c = c.in_err-out-2.ensures.muls
-
-pub returns-in_err-out-2-clause-memories : goal.returns-in_err-out-2-clause-memories
-returns-in_err-out-2-clause-memories c = c.in_err-out-2.ensures.memories
-
 pub returns-clause-belongs : goal.returns-clause-belongs
 returns-clause-belongs c = c.in_ok-out-2.ensures.belongs
 
@@ -245,3 +188,8 @@ returns-then-is_no_dearer-clause-counted c =
 
 pub returns-clause-counted : goal.returns-clause-counted
 returns-clause-counted c = counted_most _ _ c.requires.spare (tests_few c.args.schedule.now.plan.columns.items) c.in_ok-out-2.ensures.counted
+
+pub build_reading-requires-clause-room : goal.build_reading-requires-clause-room
+build_reading-requires-clause-room c =
+    let n = c.is_no_dearer.ensures c.if-is_no_dearer.true in
+    omega (arith, c.requires.room, n.cells, c.requires.columns)

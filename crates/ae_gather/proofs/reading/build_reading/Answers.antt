@@ -2,7 +2,7 @@
 use Rattle.std.proofs.Common.{ℕ, ◌≡◌, ◌≤◌, ◌+◌, ◌*◌, length, arith, refl, ap, ◌∙◌}
 use Rattle.std.proofs.lemmas.List.{length-map}
 use Rattle.ae_netlist.proofs.Growing.{net_later}
-use Rattle.ae_clocked.proofs.Adding.{grows_trans}
+use Rattle.ae_gates.proofs.Adding.{grows_trans}
 use Rattle.ae_clocked.proofs.Belonging.{belongs_grows}
 use Rattle.ae_columns.specs.Plans.{AreWithin}
 use Rattle.ae_gather.specs.Readers.{AreReads}
@@ -16,16 +16,6 @@ use Rattle.ae_clocked.proofs.InRow.{keeps_trans}
 
 -- ---- room for what rings, places, reads and the plan take
 
-rings_room : (a b r o s l p m : ℕ) → b ≤ a + 14 * r → b ≤ a + (12 + 14 * r + 6 * o + s + l + p + m + 3 * o)
-rings_room a b r o s l p m f = omega arith
-
-places_room : (a b c r o s l p m : ℕ) → b ≤ a + 14 * r → c ≤ b + (12 + (s + 3 * o)) → c ≤ a + (12 + 14 * r + 6 * o + s + l + p + m + 3 * o)
-places_room a b c r o s l p m f g = omega arith
-
-reads_room : (a b c d r o s l p m k : ℕ) → k ≡ o → b ≤ a + 14 * r → c ≤ b + (12 + (s + 3 * o)) → d ≤ c + 3 * k →
-    d ≤ a + (12 + 14 * r + 6 * o + s + l + p + m + 3 * o)
-reads_room a b c d r o s l p m k e f g h = omega arith
-
 plan_room : (a b c d e r o s l p m k j : ℕ) → k ≡ o → j ≡ o → b ≤ a + 14 * r → c ≤ b + (12 + (s + 3 * o)) → d ≤ c + 3 * k →
     e ≤ d + (m + l + p + 3 * j) → e ≤ a + (12 + 14 * r + 6 * o + s + l + p + m + 3 * o)
 plan_room a b c d e r o s l p m k j q n f g h i = omega arith
@@ -33,60 +23,8 @@ plan_room a b c d e r o s l p m k j q n f g h i = omega arith
 kept_muls : (a b c : ℕ) → b ≡ a → c ≡ b + 0 → c ≡ a
 kept_muls a b c e f = omega arith
 
-rings_memories : (a b r l : ℕ) → b ≤ a + r → b ≤ a + (r + l)
-rings_memories a b r l f = omega arith
-
 plan_memories : (a b c r l : ℕ) → b ≤ a + r → c ≤ b + l → c ≤ a + (r + l)
 plan_memories a b c r l f g = omega arith
-
-pub returns-in_err-rings-clause-cells : goal.returns-in_err-rings-clause-cells
-returns-in_err-rings-clause-cells c = rings_room _ _ _ _ _ _ _ _ c.in_err-rings.ensures.adds.cells
-
-pub returns-in_err-rings-clause-memories : goal.returns-in_err-rings-clause-memories
-returns-in_err-rings-clause-memories c = rings_memories _ _ _ _ c.in_err-rings.ensures.adds.memories
-
-pub returns-in_err-places-clause-belongs : goal.returns-in_err-places-clause-belongs
-returns-in_err-places-clause-belongs c = c.in_err-places.ensures.belongs
-
-pub returns-in_err-places-clause-cells : goal.returns-in_err-places-clause-cells
-returns-in_err-places-clause-cells c = places_room _ _ _ _ _ _ _ _ _ c.in_ok-rings.ensures.adds.cells c.in_err-places.ensures.adds.cells
-
-pub returns-in_err-places-clause-muls : goal.returns-in_err-places-clause-muls
-returns-in_err-places-clause-muls c = kept_muls _ _ _ c.in_ok-rings.ensures.adds.muls c.in_err-places.ensures.adds.muls
-
-pub returns-in_err-places-clause-memories : goal.returns-in_err-places-clause-memories
-returns-in_err-places-clause-memories c = rw c.in_err-places.ensures.adds.memories (rings_memories _ _ _ _ c.in_ok-rings.ensures.adds.memories)
-
-pub returns-in_err-all-clause-cells : goal.returns-in_err-all-clause-cells
-returns-in_err-all-clause-cells c =
-    let h = c.requires.reading in
-    reads_room _ _ _ _ _ _ _ _ _ _ _ h.from c.in_ok-rings.ensures.adds.cells c.in_ok-places.ensures.adds.cells c.in_err-all.ensures.adds.cells
-
-pub returns-in_err-all-clause-muls : goal.returns-in_err-all-clause-muls
-returns-in_err-all-clause-muls c =
-    kept_muls _ _ _ (kept_muls _ _ _ c.in_ok-rings.ensures.adds.muls c.in_ok-places.ensures.adds.muls) c.in_err-all.ensures.adds.muls
-
-pub returns-in_err-all-clause-memories : goal.returns-in_err-all-clause-memories
-returns-in_err-all-clause-memories c =
-    rw (c.in_err-all.ensures.adds.memories, c.in_ok-places.ensures.adds.memories) (rings_memories _ _ _ _ c.in_ok-rings.ensures.adds.memories)
-
-pub returns-in_err-out-clause-belongs : goal.returns-in_err-out-clause-belongs
-returns-in_err-out-clause-belongs c = c.in_err-out.ensures.belongs
-
-pub returns-in_err-out-clause-cells : goal.returns-in_err-out-clause-cells
-returns-in_err-out-clause-cells c =
-    let h = c.requires.reading in
-    plan_room _ _ _ _ _ _ _ _ _ _ _ _ _ h.from h.columns c.in_ok-rings.ensures.adds.cells c.in_ok-places.ensures.adds.cells
-    c.in_ok-all.ensures.adds.cells c.in_err-out.ensures.cells
-
-pub returns-in_err-out-clause-muls : goal.returns-in_err-out-clause-muls
-returns-in_err-out-clause-muls c =
-    c.in_err-out.ensures.muls ∙ kept_muls _ _ _ (kept_muls _ _ _ c.in_ok-rings.ensures.adds.muls c.in_ok-places.ensures.adds.muls) c.in_ok-all.ensures.adds.muls
-
-pub returns-in_err-out-clause-memories : goal.returns-in_err-out-clause-memories
-returns-in_err-out-clause-memories c =
-    plan_memories _ _ _ _ _ (rw (c.in_ok-all.ensures.adds.memories, c.in_ok-places.ensures.adds.memories) c.in_ok-rings.ensures.adds.memories)
-    c.in_err-out.ensures.memories
 
 pub returns-clause-belongs : goal.returns-clause-belongs
 returns-clause-belongs c = c.in_ok-out.ensures.belongs
@@ -122,23 +60,24 @@ all_rings-requires-clause-long c = let h = c.requires.reading in omega (arith, h
 pub place_nets-requires-clause-below : goal.place_nets-requires-clause-below
 place_nets-requires-clause-below c = λ n t f.
     let h = c.requires.reading in
-    let o = placed_trip c.args.d (length c.args.trips.now) n c.args.reading.now.reads c.args.trips.now c.args.reading.now.places.items t refl h.places f in
+    let o = placed_trip c.args.times.latency (length c.args.trips.now) n c.args.reading.now.reads c.args.trips.now c.args.reading.now.places.items t refl
+    h.places f in
     rw o.3 (c.limit_of-limit.ensures.below n o.0 o.1)
 
 pub place_nets-requires-clause-within : goal.place_nets-requires-clause-within
 place_nets-requires-clause-within c =
-    let h = c.requires.reading in within_placed c.args.period c.args.d (length c.args.trips.now) (length c.args.ins.now)
+    let h = c.requires.reading in within_placed c.args.times.period c.args.times.latency (length c.args.trips.now) (length c.args.ins.now)
     (length c.args.widths.now) c.args.reading.now.reads c.args.trips.now c.args.reading.now.places.items refl h.places c.requires.within
 
 pub place_nets-requires-clause-used : goal.place_nets-requires-clause-used
 place_nets-requires-clause-used c =
-    let h = c.requires.reading in used_placed c.args.d (length c.args.trips.now)
+    let h = c.requires.reading in used_placed c.args.times.latency (length c.args.trips.now)
     (length c.args.widths.now) c.args.reading.now.reads c.args.trips.now c.args.reading.now.places.items refl h.places c.requires.used
 
 pub place_nets-requires-clause-fits : goal.place_nets-requires-clause-fits
 place_nets-requires-clause-fits c =
-    let h = c.requires.reading in fits_placed _ c.args.d (length c.args.trips.now) c.args.reading.now.reads c.args.trips.now c.args.reading.now.places.items
-    refl h.places
+    let h = c.requires.reading in fits_placed _ c.args.times.latency
+    (length c.args.trips.now) c.args.reading.now.reads c.args.trips.now c.args.reading.now.places.items refl h.places
 
 pub place_nets-requires-clause-none : goal.place_nets-requires-clause-none
 place_nets-requires-clause-none c = let h = c.requires.reading in h.none
@@ -166,7 +105,7 @@ pub build_plan-requires-clause-few : goal.build_plan-requires-clause-few
 build_plan-requires-clause-few c =
     let h = c.requires.reading in
     let count : length c.args.reading.now.trips.items ≡ length c.args.trips.now = ap length h.taken ∙
-    length-map c.args.trips.now (read_trip c.args.d c.args.reading.now.reads) in
+    length-map c.args.trips.now (read_trip c.args.times.latency c.args.reading.now.reads) in
     rw c.deref-4.ensures.value (omega (arith, count, c.requires.few))
 
 pub build_plan-requires-clause-nets : goal.build_plan-requires-clause-nets
@@ -187,16 +126,17 @@ build_plan-requires-clause-within c =
     let all : AreReads (length c.args.widths.now) c.all_reads.new.nl.cells c.args.clocks.now.rst c.args.reading.now.reads c.args.ins.now
     c.in_ok-places.places.items c.in_ok-all.all.items = rw (c.deref-2.ensures.value, h.from) at
     (c.in_ok-all.ensures.reads c.args.clocks.now.rst (rw c.deref.ensures.value made)) in
-    let within : AreWithin c.args.period c.args.d (length c.args.reading.now.reads.rings.items)
+    let within : AreWithin c.args.times.period c.args.times.latency (length c.args.reading.now.reads.rings.items)
     (length c.args.widths.now) c.args.trips.now = rw h.rings c.requires.within in
     let count : length c.in_ok-all.all.items ≡ length c.args.reading.now.reads.rings.items + length c.args.widths.now = omega (arith, all.long, h.rings) in
     rw (c.deref-3.ensures.value, c.deref-4.ensures.value, count)
-    (within_read c.args.period c.args.d (length c.args.widths.now) c.args.reading.now.reads c.args.trips.now c.args.reading.now.trips.items h.taken within)
+    (within_read c.args.times.period c.args.times.latency
+    (length c.args.widths.now) c.args.reading.now.reads c.args.trips.now c.args.reading.now.trips.items h.taken within)
 
 pub build_plan-requires-clause-used : goal.build_plan-requires-clause-used
 build_plan-requires-clause-used c =
     let h = c.requires.reading in rw c.deref-4.ensures.value
-    (used_read c.args.d (length c.args.widths.now) c.args.reading.now.reads c.args.trips.now c.args.reading.now.trips.items h.taken c.requires.used)
+    (used_read c.args.times.latency (length c.args.widths.now) c.args.reading.now.reads c.args.trips.now c.args.reading.now.trips.items h.taken c.requires.used)
 
 pub build_plan-requires-clause-fitting : goal.build_plan-requires-clause-fitting
 build_plan-requires-clause-fitting c =
@@ -205,12 +145,12 @@ build_plan-requires-clause-fitting c =
     let all : AreReads (length c.args.widths.now) c.all_reads.new.nl.cells c.args.clocks.now.rst c.args.reading.now.reads c.args.ins.now
     c.in_ok-places.places.items c.in_ok-all.all.items = rw (c.deref-2.ensures.value, h.from) at
     (c.in_ok-all.ensures.reads c.args.clocks.now.rst (rw c.deref.ensures.value made)) in
-    let within : AreWithin c.args.period c.args.d (length c.args.reading.now.reads.rings.items)
+    let within : AreWithin c.args.times.period c.args.times.latency (length c.args.reading.now.reads.rings.items)
     (length c.args.widths.now) c.args.trips.now = rw h.rings c.requires.within in
     let g = grows_trans c.in_ok-rings.ensures.adds.grows (grows_trans c.in_ok-places.ensures.adds.grows c.in_ok-all.ensures.adds.grows) in
     let grown = fitting_grows _ _ c.args.ins.now c.args.widths.now c.args.trips.now g.extends c.requires.fitting in
     rw (c.deref-3.ensures.value, c.deref-4.ensures.value)
-    (fitting_read c.args.period c.args.d (length c.args.widths.now) _ _ c.args.reading.now.reads c.args.ins.now c.in_ok-places.places.items
+    (fitting_read c.args.times.period c.args.times.latency (length c.args.widths.now) _ _ c.args.reading.now.reads c.args.ins.now c.in_ok-places.places.items
     c.in_ok-all.all.items c.args.widths.now c.args.trips.now c.args.reading.now.trips.items h.taken (omega (arith, h.rings)) all within grown)
 
 pub build_plan-requires-clause-early : goal.build_plan-requires-clause-early
@@ -241,34 +181,11 @@ pub build_plan-requires-clause-taps : goal.build_plan-requires-clause-taps
 build_plan-requires-clause-taps c =
     let h = c.requires.reading in
     let count : length c.args.reading.now.trips.items ≡ length c.args.trips.now = ap length h.taken ∙
-    length-map c.args.trips.now (read_trip c.args.d c.args.reading.now.reads) in
+    length-map c.args.trips.now (read_trip c.args.times.latency c.args.reading.now.reads) in
     rw (c.deref-4.ensures.value, count) h.few
 
 pub build_plan-requires-clause-belongs : goal.build_plan-requires-clause-belongs
 build_plan-requires-clause-belongs c = belongs_grows _ _ _ c.in_ok-all.ensures.adds.grows c.in_ok-places.ensures.belongs
-
-pub returns-in_err-places-clause-grows : goal.returns-in_err-places-clause-grows
-returns-in_err-places-clause-grows c = grows_trans c.in_ok-rings.ensures.adds.grows c.in_err-places.ensures.adds.grows
-
-pub returns-in_err-places-clause-keeps : goal.returns-in_err-places-clause-keeps
-returns-in_err-places-clause-keeps c = keeps_trans c.in_ok-rings.ensures.keeps c.in_err-places.ensures.keeps
-
-pub returns-in_err-all-clause-grows : goal.returns-in_err-all-clause-grows
-returns-in_err-all-clause-grows c = grows_trans c.in_ok-rings.ensures.adds.grows (grows_trans c.in_ok-places.ensures.adds.grows c.in_err-all.ensures.adds.grows)
-
-pub returns-in_err-all-clause-keeps : goal.returns-in_err-all-clause-keeps
-returns-in_err-all-clause-keeps c = keeps_trans c.in_ok-rings.ensures.keeps c.in_ok-places.ensures.keeps
-
-pub returns-in_err-all-clause-belongs : goal.returns-in_err-all-clause-belongs
-returns-in_err-all-clause-belongs c = belongs_grows _ _ _ c.in_err-all.ensures.adds.grows c.in_ok-places.ensures.belongs
-
-pub returns-in_err-out-clause-grows : goal.returns-in_err-out-clause-grows
-returns-in_err-out-clause-grows c =
-    grows_trans c.in_ok-rings.ensures.adds.grows (grows_trans c.in_ok-places.ensures.adds.grows
-    (grows_trans c.in_ok-all.ensures.adds.grows c.in_err-out.ensures.grows))
-
-pub returns-in_err-out-clause-keeps : goal.returns-in_err-out-clause-keeps
-returns-in_err-out-clause-keeps c = keeps_trans c.in_ok-rings.ensures.keeps (keeps_trans c.in_ok-places.ensures.keeps c.in_err-out.ensures.keeps)
 
 pub returns-clause-grows : goal.returns-clause-grows
 returns-clause-grows c =
@@ -285,14 +202,15 @@ returns-clause-trips c =
     let all : AreReads (length c.args.widths.now) c.all_reads.new.nl.cells c.args.clocks.now.rst c.args.reading.now.reads c.args.ins.now
     c.in_ok-places.places.items c.in_ok-all.all.items = rw (c.deref-2.ensures.value, h.from) at
     (c.in_ok-all.ensures.reads c.args.clocks.now.rst (rw c.deref.ensures.value made)) in
-    let within : AreWithin c.args.period c.args.d (length c.args.reading.now.reads.rings.items)
+    let within : AreWithin c.args.times.period c.args.times.latency (length c.args.reading.now.reads.rings.items)
     (length c.args.widths.now) c.args.trips.now = rw h.rings c.requires.within in
     let shows = shows_later _ _ _ _ _ _ _ _ (grows_trans c.in_ok-all.ensures.adds.grows c.in_ok-out.ensures.grows).extends
     (rw c.in_ok-rings.ensures.keeps.rst at c.in_ok-places.ensures.shows) in
     let read = reads_later c.in_ok-out.ensures.grows.extends all in
     let made_trips = rw (c.deref-3.ensures.value, c.deref-4.ensures.value, c.in_ok-places.ensures.keeps.rst, c.in_ok-rings.ensures.keeps.rst) at
     c.in_ok-out.ensures.trips in
-    trips_read _ _ c.args.period c.args.d c.args.arrival (length c.args.widths.now) c.args.reading.now.reads c.args.ins.now c.in_ok-places.places.items
+    trips_read _ _ c.args.times.period c.args.times.latency c.args.times.arrival
+    (length c.args.widths.now) c.args.reading.now.reads c.args.ins.now c.in_ok-places.places.items
     c.in_ok-all.all.items _ c.args.trips.now c.args.reading.now.places.items c.args.reading.now.trips.items h.taken
     (omega (arith, h.rings)) read h.places shows within made_trips
 
@@ -306,3 +224,38 @@ returns-clause-counted c =
       registers = omega (arith, rings.registers, places.registers, reads.registers, out.registers);
       tests = omega (arith, rings.tests, places.tests, reads.tests, out.tests);
     }
+
+pub all_rings-requires-clause-room : goal.all_rings-requires-clause-room
+all_rings-requires-clause-room c =
+    omega (arith, c.requires.room)
+
+pub place_nets-requires-clause-room : goal.place_nets-requires-clause-room
+place_nets-requires-clause-room c =
+    omega (arith, c.requires.room, c.in_ok-rings.ensures.adds.cells, c.in_ok-rings.ensures.adds.grows.limit)
+
+pub all_reads-requires-clause-room : goal.all_reads-requires-clause-room
+all_reads-requires-clause-room c =
+    omega (
+      arith,
+      c.requires.room,
+      c.requires.reading.from,
+      c.in_ok-rings.ensures.adds.cells,
+      c.in_ok-rings.ensures.adds.grows.limit,
+      c.in_ok-places.ensures.adds.cells,
+      c.in_ok-places.ensures.adds.grows.limit,
+    )
+
+pub build_plan-requires-clause-room : goal.build_plan-requires-clause-room
+build_plan-requires-clause-room c =
+    omega (
+      arith,
+      c.requires.room,
+      c.requires.reading.from,
+      c.requires.reading.columns,
+      c.in_ok-rings.ensures.adds.cells,
+      c.in_ok-rings.ensures.adds.grows.limit,
+      c.in_ok-places.ensures.adds.cells,
+      c.in_ok-places.ensures.adds.grows.limit,
+      c.in_ok-all.ensures.adds.cells,
+      c.in_ok-all.ensures.adds.grows.limit,
+    )

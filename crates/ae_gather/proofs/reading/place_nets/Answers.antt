@@ -1,14 +1,15 @@
 -- The counter that is a clock ahead, and columns of fixed words by it.
-use Rattle.std.proofs.Common.{ℕ, ◌≡◌, ◌+◌, ◌-◌, ◌%◌, ◌≤◌, [], get_or, slice_get, Some, arith, refl, ap, ◌∙◌}
+use Rattle.std.proofs.Common.{sum_by, ℕ, ◌≡◌, ◌+◌, ◌-◌, ◌%◌, [], get_or, slice_get, Some, arith, refl, ap, ◌∙◌, length}
 use Rattle.std.proofs.lemmas.Option.{slice_get-get_or}
 use Rattle.ae_netlist.specs.declared.cell.NetId.{NetId}
-use Rattle.ae_clocked.proofs.Adding.{adds_most, adds_same, adds_trans}
+use Rattle.ae_gates.proofs.Adding.{adds_trans}
 use Rattle.ae_clocked.proofs.InRow.{keeps_trans}
 use Rattle.ae_gather.proofs.Building.{begun_of, fitting_grows, steps_ready}
 use Rattle.ae_columns.proofs.Choosing.{phase_grows}
 use Rattle.ae_columns.proofs.Scheduled.{columns_nets}
 use Rattle.ae_gather.proofs.Showing.{fitting_places, no_lines, places_shown}
 use Rattle.ae_columns.proofs.Counted.{counted_most, counted_trans, none_count}
+use Rattle.ae_columns.specs.Plans.{steps_cells}
 use Rattle.ae_gather.proofs.reading.place_nets.Goals as goal
 
 pub all_columns-requires-clause-begun : goal.all_columns-requires-clause-begun
@@ -23,26 +24,11 @@ all_columns-requires-clause-ready c = λ q w steps there wide.
     (omega (arith, c.requires.low)) (omega (arith, c.requires.high)) c.in_ok-widths.ensures.each c.requires.fits in
     let fitting = fitting_grows _ _ [] c.in_ok-widths.widths.items c.args.reading.now.places.items c.in_ok-phase.ensures.adds.grows.extends fits in
     rw (c.deref-3.ensures.value, c.in_ok-early.ensures.none q, c.in_ok-phase.ensures.limits)
-    (steps_ready _ _ w q c.args.limit c.args.d [] c.in_ok-widths.widths.items c.args.reading.now.places.items c.args.reading.now.plan.lines.items
+    (steps_ready _ _ w q c.args.limit c.args.times.latency [] c.in_ok-widths.widths.items c.args.reading.now.places.items c.args.reading.now.plan.lines.items
     [] c.args.reading.now.plan.columns.items steps lines fitting c.requires.below c.requires.plan here width)
-
-pub returns-in_err-phase-clause-belongs : goal.returns-in_err-phase-clause-belongs
-returns-in_err-phase-clause-belongs c = c.in_err-phase.ensures.belongs
-
-pub returns-in_err-phase-clause-keeps : goal.returns-in_err-phase-clause-keeps
-returns-in_err-phase-clause-keeps c = c.in_err-phase.ensures.keeps
-
-pub returns-in_err-out-clause-keeps : goal.returns-in_err-out-clause-keeps
-returns-in_err-out-clause-keeps c = keeps_trans c.in_ok-phase.ensures.keeps c.in_err-out.ensures.keeps
 
 pub returns-clause-keeps : goal.returns-clause-keeps
 returns-clause-keeps c = keeps_trans c.in_ok-phase.ensures.keeps c.in_ok-out.ensures.keeps
-
-pub returns-in_err-out-clause-belongs : goal.returns-in_err-out-clause-belongs
-returns-in_err-out-clause-belongs c = c.in_err-out.ensures.belongs
-
-pub returns-in_err-out-clause-adds : goal.returns-in_err-out-clause-adds
-returns-in_err-out-clause-adds c = adds_trans c.in_ok-phase.ensures.adds (rw (c.deref.ensures.value, c.requires.columns) at c.in_err-out.ensures.adds)
 
 pub returns-clause-adds : goal.returns-clause-adds
 returns-clause-adds c = adds_trans c.in_ok-phase.ensures.adds (rw (c.deref.ensures.value, c.requires.columns) at c.in_ok-out.ensures.adds)
@@ -66,28 +52,26 @@ returns-clause-nets c = λ q l.
 pub returns-clause-shows : goal.returns-clause-shows
 returns-clause-shows c =
     let made = rw (c.deref.ensures.value, c.deref-2.ensures.value, c.deref-3.ensures.value, c.in_ok-phase.ensures.keeps.rst) at c.in_ok-out.ensures.columns in
-    let t : ℕ = c.args.period in
+    let t : ℕ = c.args.times.period in
     let offsets = c.in_ok-phase.ensures.offsets ∙ c.offset-ahead.ensures ∙ ap (λ n. (n + (t - 1)) % t) c.offset-begin.ensures in
-    places_shown _ _ c.args.period c.args.d c.args.arrival c.args.limit c.args.outs c.in_ok-phase.phase _ c.in_ok-widths.widths.items c.in_ok-early.early.items
-    c.args.reading.now.places.items c.args.reading.now.plan.lines.items c.args.reading.now.plan.columns.items c.in_ok-out.out.items
+    places_shown _ _ c.args.times.period c.args.times.latency c.args.times.arrival c.args.limit c.args.outs c.in_ok-phase.phase _ c.in_ok-widths.widths.items
+    c.in_ok-early.early.items c.args.reading.now.places.items c.args.reading.now.plan.lines.items c.args.reading.now.plan.columns.items c.in_ok-out.out.items
     c.requires.within c.requires.below c.requires.plan c.requires.columns c.in_ok-widths.ensures.long c.in_ok-early.ensures.none refl
     (phase_grows c.in_ok-out.ensures.adds.grows.extends c.in_ok-phase.ensures.counts) c.in_ok-phase.ensures.periodic c.in_ok-phase.ensures.limits offsets
     made
-
-counter_room : (n : ℕ) → 12 ≤ 12 + n
-counter_room n = omega arith
-
-pub returns-in_err-widths-clause-adds : goal.returns-in_err-widths-clause-adds
-returns-in_err-widths-clause-adds c = adds_same _ _ _ refl
-
-pub returns-in_err-early-clause-adds : goal.returns-in_err-early-clause-adds
-returns-in_err-early-clause-adds c = adds_same _ _ _ refl
-
-pub returns-in_err-phase-clause-adds : goal.returns-in_err-phase-clause-adds
-returns-in_err-phase-clause-adds c = adds_most _ (counter_room _) c.in_err-phase.ensures.adds
 
 pub returns-clause-counted : goal.returns-clause-counted
 returns-clause-counted c =
     let none = none_count c.in_ok-early.early.items c.in_ok-early.ensures.none in
     let told = rw (c.deref.ensures.value, c.deref-3.ensures.value) at c.in_ok-out.ensures.counted in
     counted_most _ _ (omega (arith, none)) (omega arith) (counted_trans c.in_ok-phase.ensures.counted told)
+
+pub counting-requires-clause-room : goal.counting-requires-clause-room
+counting-requires-clause-room c =
+    omega (arith, c.requires.room)
+
+pub all_columns-requires-clause-room : goal.all_columns-requires-clause-room
+all_columns-requires-clause-room c =
+    let steps = ap (sum_by steps_cells) c.deref.ensures.value in
+    let long = ap length c.deref.ensures.value in
+    omega (arith, c.requires.room, steps, long, c.requires.columns, c.in_ok-phase.ensures.adds.cells, c.in_ok-phase.ensures.adds.grows.limit)

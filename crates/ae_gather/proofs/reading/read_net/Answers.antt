@@ -2,7 +2,7 @@
 use Rattle.std.proofs.Common.{◌≡◌, Some, None, length, slice_get, arith, refl, sym, ap, ◌∙◌}
 use Rattle.std.proofs.lemmas.Option.{get_or_from_slice_get, slice_get-get_or, slice_get_read}
 use Rattle.ae_netlist.proofs.Growing.{net_later, net_width}
-use Rattle.ae_clocked.proofs.Added.{own_net}
+use Rattle.ae_gates.proofs.Added.{own_net}
 use Rattle.ae_columns.specs.Columns.{net_of}
 use Rattle.ae_gather.proofs.reading.read_net.Goals as goal
 

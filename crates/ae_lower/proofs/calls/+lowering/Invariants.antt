@@ -1,9 +1,9 @@
 use Rattle.std.proofs.Common.{ℕ, ◌≡◌, [], ◌+◌, ◌*◌, ◌≤◌, length}
 use Rattle.ae_clocked.specs.Phases.{Belongs, KeepsCounters}
 use Rattle.ae_clocked.specs.KeptRings.{RingsBelong}
-use Rattle.ae_rewrite.specs.StProgramTree.{st_func_tree, st_func_trees}
+use Rattle.ae_rewrite.specs.StProgramTree.{st_func_tree}
 use Rattle.ae_tidy.specs.Places.{AreMarks}
-use Rattle.ae_lower.specs.Lowering.{timings_in}
+use Rattle.ae_lower.specs.Lowering.{instances_of, timings_in}
 use Rattle.ae_lower.specs.Sections.{AreSections, HaveSections, IsSectionWithin}
 use Rattle.ae_lower.proofs.Instances.{AreLowered, AreSpread, HaveSpent}
 use Rattle.ae_lower.proofs.Stretches.{HaveMarks}
@@ -16,16 +16,16 @@ abbrev pub decreases-lower_instance : goal.decreases-lower_instance
 decreases-lower_instance l = 3 * l.k + 2
 
 abbrev pub decreases-lower_node : goal.decreases-lower_node
-decreases-lower_node l = 3 * l.k + 1
+decreases-lower_node l = 3 * l.within.now.number + 1
 
 abbrev pub invariant-lower_bodies-loop-lane : goal.invariant-lower_bodies-loop-lane
 invariant-lower_bodies-loop-lane l = record {
   belongs : Belongs l.clocks l.nl.cells;
   keeps : KeepsCounters l.fn.clocks l.clocks;
-  spread : AreSpread (st_func_trees l.p) l.m l.at l.fn.clocks.rst l.copies l.args l.fn.nl l.nl l.lane l.out.items;
+  spread : AreSpread (instances_of l.whole) l.m l.at l.fn.clocks.rst l.copies l.args l.fn.nl l.nl l.lane l.out.items;
   within : l.lane ≤ l.copies;
   sections : AreSections (length l.fn.nl.cells) l.fn.sections.items
-      → HaveSections (IsSectionWithin (st_func_trees l.p) l.m) (length l.fn.nl.cells) (length l.nl.cells) l.fn.sections.items l.sections.items;
+      → HaveSections (IsSectionWithin (instances_of l.whole) l.m) (length l.fn.nl.cells) (length l.nl.cells) l.fn.sections.items l.sections.items;
 }
 
 abbrev pub invariant-lower_instance-loop-j : goal.invariant-lower_instance-loop-j
@@ -33,10 +33,10 @@ invariant-lower_instance-loop-j l = record {
   belongs : Belongs l.clocks l.nl.cells;
   keeps : KeepsCounters l.fn.clocks l.clocks;
   rings : RingsBelong l.kept l.fn.clocks.rst l.nl.cells;
-  spent : HaveSpent (st_func_trees l.p) l.k (st_func_tree l.s) l.fn.nl l.nl l.j l.most l.kept.left;
-  lowered : AreLowered (st_func_trees l.p) l.k l.at l.fn.clocks.rst (st_func_tree l.s) l.ins l.fn.nl l.nl l.j l.items.items;
+  spent : HaveSpent (instances_of l.whole) l.k (st_func_tree l.s) l.fn.nl l.nl l.j l.most l.kept.left;
+  lowered : AreLowered (instances_of l.whole) l.k l.at l.fn.clocks.rst (st_func_tree l.s) l.ins l.fn.nl l.nl l.j l.items.items;
   marked : (count : ℕ) → AreMarks (length l.fn.nl.cells) count l.fn.marks.items → AreMarks (length l.nl.cells) (count + l.j) l.marks.items;
-  nodes : l.fn.marks.items ≡ [] → HaveMarks l.fn.nl l.nl (timings_in (st_func_trees l.p) l.k (st_func_tree l.s)) l.j l.marks.items;
+  nodes : l.fn.marks.items ≡ [] → HaveMarks l.fn.nl l.nl (timings_in (instances_of l.whole) l.k (st_func_tree l.s)) l.j l.marks.items;
   sections : AreSections (length l.fn.nl.cells) l.fn.sections.items
-      → HaveSections (IsSectionWithin (st_func_trees l.p) l.k) (length l.fn.nl.cells) (length l.nl.cells) l.fn.sections.items l.sections.items;
+      → HaveSections (IsSectionWithin (instances_of l.whole) l.k) (length l.fn.nl.cells) (length l.nl.cells) l.fn.sections.items l.sections.items;
 }

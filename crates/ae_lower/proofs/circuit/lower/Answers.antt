@@ -1,5 +1,5 @@
 -- The circuit from its parts.
-use Rattle.std.proofs.Common.{◌≡◌, ◌+◌, ◌-◌, ◌++◌, ◌∷◌, [], ℕ, arith, List, Some, slice_get, length, sym, refl, ap, ◌∙◌, subst}
+use Rattle.std.proofs.Common.{◌≡◌, ◌+◌, ◌-◌, ◌++◌, ◌∷◌, [], ℕ, arith, List, Some, slice_get, length, sym, ap, ◌∙◌, subst}
 use Rattle.std.proofs.lemmas.List.{length-map}
 use Rattle.std.proofs.lemmas.Option.{same_Some, slice_get-map}
 use Rattle.std.specs.Option.{option_map}
@@ -14,7 +14,7 @@ use Rattle.ae_ops.specs.Blocks.{AreBundles}
 use Rattle.ae_ports.specs.Ports.{input_cell, input_ports, reset_port, streams_of}
 use Rattle.ae_lower.specs.Circuits.{IsCircuitOf, IsCircuitThat, MakesResults, last_of}
 use Rattle.ae_clocked.specs.Phases.{Kept}
-use Rattle.ae_lower.specs.Growth.{Adds, GrowsBy}
+use Rattle.ae_lower.specs.Growth.{AddsMulsAndMemories, GrowsBy}
 use Rattle.ae_lower.specs.Lowering.{instance_costs, timings_in}
 use Rattle.ae_lower.specs.Sections.{AreCovered, AreSections, IsSectionWithin}
 use Rattle.ae_lower.specs.Stretches.{AreNodeCells, results_load}
@@ -39,8 +39,8 @@ add_inputs-requires-clause-room c =
     let limit = ap (λ (n : Circuit). n.limit) c.in_ok-rst.ensures.added ∙ ap (λ (n : Circuit). n.limit) c.new-nl.ensures in
     omega (arith, one, limit, sound.few_ins, length-map f.ins.items st_tree, ap length c.deref.ensures.value)
 
-pub in_room-requires : goal.in_room-requires
-in_room-requires c is =
+pub lower_instance-requires-clause-room : goal.lower_instance-requires-clause-room
+lower_instance-requires-clause-room c =
     let fs = c.args.p.now in
     let f = c.instance-s.result.now in
     let k = c.count-last.result - 1 in
@@ -52,20 +52,16 @@ in_room-requires c is =
     let limit =
     ap (λ (n : Circuit). n.limit) c.in_ok-ins.ensures.cells ∙ ap (λ (n : Circuit). n.limit) c.in_ok-rst.ensures.added ∙
     ap (λ (n : Circuit). n.limit) c.new-nl.ensures in
-    let full : length c.lower_instance.new.nl.cells ≡ c.lower_instance.new.nl.limit = let told = rw is at c.lower_instance.ensures.full in told refl in
     omega (
       arith,
       one,
       limit,
       load,
       c.load.ensures.load,
-      full,
       sound.few_ins,
       length-map f.ins.items st_tree,
       ap length c.deref.ensures.value,
       c.in_ok-ins.ensures.few,
-      c.lower_instance.ensures.grows.cells,
-      c.lower_instance.ensures.grows.grows.limit,
     )
 
 pub add_inputs-requires-clause-in_size : goal.add_inputs-requires-clause-in_size
@@ -83,6 +79,12 @@ lower_instance-requires-clause-belongs c =
     (ap st_trees c.deref.ensures.value) in
     reset_belongs s.ins c.add_inputs.new.nl c.new-clocks.result c.in_ok-rst.rst begun c.new-clocks.ensures
     (ap (λ (n : NetId). n.0) c.in_ok-rst.ensures.net ∙ ap (λ (n : Circuit). length n.cells) c.new-nl.ensures)
+
+pub lower_instance-requires-clause-whole : goal.lower_instance-requires-clause-whole
+lower_instance-requires-clause-whole c = record {
+  timed = record { sound = c.count-last.ensures.sound; fitted = c.requires.fitted; arrivals = c.requires.times.arrivals };
+  slacks = c.requires.slacks;
+}
 
 pub lower_instance-requires-clause-light : goal.lower_instance-requires-clause-light
 lower_instance-requires-clause-light c =
@@ -115,14 +117,14 @@ add_results-requires-clause-sound c =
 pub add_results-requires-clause-long : goal.add_results-requires-clause-long
 add_results-requires-clause-long c =
     let f = c.instance-s.result.now in
-    let results = rw c.in_ok-results.ensures at c.lower_instance.ensures.results in
+    let results = c.in_ok-results.ensures.results in
     let chosen = results (st_func_tree f) (instance_at c.args.p.now (c.count-last.result - 1) f c.instance-s.ensures) in
     ap length c.deref-3.ensures.value ∙ chosen.long
 
 pub add_results-requires-clause-nets : goal.add_results-requires-clause-nets
 add_results-requires-clause-nets c r i nets at has =
     let f = c.instance-s.result.now in
-    let results = rw c.in_ok-results.ensures at c.lower_instance.ensures.results in
+    let results = c.in_ok-results.ensures.results in
     let chosen = results (st_func_tree f) (instance_at c.args.p.now (c.count-last.result - 1) f c.instance-s.ensures) in
     (chosen.each r i nets at (ap (λ (bs : List (List NetId)). slice_get bs r) (sym c.deref-3.ensures.value) ∙ has)).there
 
@@ -143,12 +145,13 @@ returns-clause-circuit c s found =
     (ap st_trees c.deref.ensures.value) in
     let rst : c.new-clocks.result.rst ≡ 0 =
     ap (λ (q : Kept). q.rst) c.new-clocks.ensures ∙ (ap (λ (n : NetId). n.0) c.in_ok-rst.ensures.net ∙ ap (λ (n : Circuit). length n.cells) c.new-nl.ensures) in
-    let results = rw c.in_ok-results.ensures at c.lower_instance.ensures.results in
+    let results = c.in_ok-results.ensures.results in
     let chosen = chosen_last instances (st_func_tree f) _ c.new-clocks.result.rst k _ _ _ _ rst last bundles (sym c.deref-3.ensures.value)
     (results (st_func_tree f) here) in
-    let grown = subst (λ m. GrowsBy c.add_inputs.new.nl c.lower_instance.new.nl (instance_costs instances m).load) last c.lower_instance.ensures.grows in
-    let adds = rw c.in_ok-results.ensures at c.lower_instance.ensures.adds in
-    let adds = subst (λ m. Adds c.add_inputs.new.nl c.lower_instance.new.nl (instance_costs instances m).muls (instance_costs instances m).mems) last
+    let grown = subst (λ m. GrowsBy c.add_inputs.new.nl c.lower_instance.new.nl (instance_costs instances m).load) last c.in_ok-results.ensures.grows in
+    let adds = c.in_ok-results.ensures.adds in
+    let adds = subst (λ m. AddsMulsAndMemories c.add_inputs.new.nl c.lower_instance.new.nl (instance_costs instances m).muls (instance_costs instances m).mems)
+    last
     adds in
     let made =
     circuit_made instances (st_func_tree f) _ _ _ c.deref-3.result.now
@@ -170,7 +173,7 @@ returns-clause-marks c s found =
     let here : slice_get (st_func_trees fs) k ≡ Some s = rw last found in
     let none : AreMarks (length c.add_inputs.new.nl.cells) 0 c.new-marks.result.items = rw c.new-marks.ensures.items
     (no_marks (length c.add_inputs.new.nl.cells)) in
-    let marks = rw c.in_ok-results.ensures at c.lower_instance.ensures.marks in
+    let marks = c.in_ok-results.ensures.marks in
     let all : AreMarks (length c.lower_instance.new.nl.cells) (0 + length s.nodes) c.lower_instance.new.marks.items = marks s 0 here none in
     let same : length c.lower_instance.new.nl.cells ≡ length c.add_results.new.nl.cells = ap (λ (n : Circuit). length n.cells)
     (sym c.in_ok-add_results.ensures.added) in
@@ -189,7 +192,7 @@ returns-clause-nodes c s found =
     let here : slice_get (st_func_trees fs) k ≡ Some s = rw last found in
     let none : AreMarks (length c.add_inputs.new.nl.cells) 0 c.new-marks.result.items = rw c.new-marks.ensures.items
     (no_marks (length c.add_inputs.new.nl.cells)) in
-    let marks = rw c.in_ok-results.ensures at c.lower_instance.ensures.marks in
+    let marks = c.in_ok-results.ensures.marks in
     let all : AreMarks (length c.lower_instance.new.nl.cells) (0 + length s.nodes) c.lower_instance.new.marks.items = marks s 0 here none in
     let same : length c.lower_instance.new.nl.cells ≡ length c.add_results.new.nl.cells = ap (λ (n : Circuit). length n.cells)
     (sym c.in_ok-add_results.ensures.added) in
@@ -206,8 +209,8 @@ returns-clause-nodes c s found =
     (begun_long (st_func_tree f).ins c.add_inputs.new.nl begun) in
     let kept : c.lower_instance.new.nl.cells ≡ c.add_results.new.nl.cells = ap (λ (n : Circuit). n.cells) (sym c.in_ok-add_results.ensures.added) in
     let front : number_of is_input c.lower_instance.new.nl.cells (length c.add_inputs.new.nl.cells) ≡ length c.add_inputs.new.nl.cells =
-    begun_inputs (st_func_tree f).ins c.add_inputs.new.nl c.lower_instance.new.nl begun c.lower_instance.ensures.grows.grows.extends in
-    let nodes = rw c.in_ok-results.ensures at c.lower_instance.ensures.nodes in
+    begun_inputs (st_func_tree f).ins c.add_inputs.new.nl c.lower_instance.new.nl begun c.in_ok-results.ensures.grows.grows.extends in
+    let nodes = c.in_ok-results.ensures.nodes in
     let made : AreNodeCells instances k s c.lower_instance.new.nl.cells
     (length c.add_inputs.new.nl.cells) c.lower_instance.new.marks.items = nodes s here c.new-marks.ensures.items in
     let raw : AreNodeCells instances k s c.add_results.new.nl.cells (length c.add_inputs.new.nl.cells) c.lower_instance.new.marks.items =
@@ -225,7 +228,7 @@ returns-clause-nodes c s found =
 pub copied_sections-requires-clause-few : goal.copied_sections-requires-clause-few
 copied_sections-requires-clause-few c =
     let limit =
-    ap (λ (n : Circuit). n.limit) c.in_ok-add_results.ensures.added ∙ c.lower_instance.ensures.grows.grows.limit ∙
+    ap (λ (n : Circuit). n.limit) c.in_ok-add_results.ensures.added ∙ c.in_ok-results.ensures.grows.grows.limit ∙
     ap (λ (n : Circuit). n.limit) c.in_ok-ins.ensures.cells ∙ ap (λ (n : Circuit). n.limit) c.in_ok-rst.ensures.added ∙
     ap (λ (n : Circuit). n.limit) c.new-nl.ensures in
     omega (
@@ -244,7 +247,7 @@ copied_sections-requires-clause-rising c = rw c.deref-4.ensures.value c.in_ok-ti
 
 pub copied_sections-requires-clause-sections : goal.copied_sections-requires-clause-sections
 copied_sections-requires-clause-sections c =
-    let sections = rw c.in_ok-results.ensures at c.lower_instance.ensures.sections in
+    let sections = c.in_ok-results.ensures.sections in
     let have = sections (rw c.new-sections.ensures.items (sections_empty (length c.add_inputs.new.nl.cells))) in
     (length c.lower_instance.new.nl.cells, rw c.deref-5.ensures.value have.are)
 
@@ -268,7 +271,7 @@ returns-clause-covered c s found =
     let begin : length c.add_inputs.new.nl.cells ≡ 1 + length (input_ports (streams_of s.ins)) =
     subst (λ (u : StFuncTree). length c.add_inputs.new.nl.cells ≡ 1 + length (input_ports (streams_of u.ins))) is
     (begun_long (st_func_tree f).ins c.add_inputs.new.nl begun) in
-    let sections = rw c.in_ok-results.ensures at c.lower_instance.ensures.sections in
+    let sections = c.in_ok-results.ensures.sections in
     let have = sections (rw c.new-sections.ensures.items (sections_empty (length c.add_inputs.new.nl.cells))) in
     let same : length c.lower_instance.new.nl.cells ≡ length c.add_results.new.nl.cells = ap (λ (n : Circuit). length n.cells)
     (sym c.in_ok-add_results.ensures.added) in

@@ -1,8 +1,8 @@
 -- One bundle more, and the growth so far.
 use Rattle.std.proofs.Common.{◌≡◌, length, take, arith}
 use Rattle.std.proofs.lemmas.List.{length-take-le, take_all, take_more}
-use Rattle.ae_clocked.proofs.Adding.{grows_refl}
-use Rattle.ae_lower.proofs.Growing.{by_trans, keeps_none, spends_none, spends_trans, spends_up}
+use Rattle.ae_gates.proofs.Adding.{grows_refl}
+use Rattle.ae_lower.proofs.Growing.{by_trans, keeps_none, spends_none, spends_trans, spends_up, room_behind}
 use Rattle.ae_lower.proofs.Delaying.{delay_more, delay_most, delayed_more, delayed_none, item_at, own_grow}
 use Rattle.ae_lower.proofs.items.joined.Goals as goal
 use Rattle.ae_clocked.proofs.InRow.{keeps_trans}
@@ -15,26 +15,6 @@ waited-requires-clause-nets c =
 pub waited-requires-clause-rings : goal.waited-requires-clause-rings
 waited-requires-clause-rings c = rw c.loop-r.invariant.keeps.rst c.loop-r.invariant.rings
 
-pub returns-in_err-bundle-clause-grows : goal.returns-in_err-bundle-clause-grows
-returns-in_err-bundle-clause-grows c =
-    by_trans _ (delay_most c.args.items.now c.args.waits.now c.args.chosen.now c.loop-r.r c.index-items-k.result
-    (item_at c.args.items.now c.args.chosen.now c.loop-r.r c.index-items-k.result c.requires.below c.loop-r-test.true c.index-items-k.is) c.requires.long
-    c.loop-r-test.true)
-    c.loop-r.invariant.grows c.in_err-bundle.ensures.grows
-
-pub returns-in_err-push-clause-grows : goal.returns-in_err-push-clause-grows
-returns-in_err-push-clause-grows c =
-    by_trans _ (delay_most c.args.items.now c.args.waits.now c.args.chosen.now c.loop-r.r c.index-items-k.result
-    (item_at c.args.items.now c.args.chosen.now c.loop-r.r c.index-items-k.result c.requires.below c.loop-r-test.true c.index-items-k.is) c.requires.long
-    c.loop-r-test.true)
-    c.loop-r.invariant.grows c.in_ok-bundle.ensures.grows
-
-pub returns-in_err-bundle-clause-keeps : goal.returns-in_err-bundle-clause-keeps
-returns-in_err-bundle-clause-keeps c = keeps_trans c.loop-r.invariant.keeps c.in_err-bundle.ensures.keeps
-
-pub returns-in_err-push-clause-keeps : goal.returns-in_err-push-clause-keeps
-returns-in_err-push-clause-keeps c = keeps_trans c.loop-r.invariant.keeps c.in_ok-bundle.ensures.keeps
-
 pub returns-clause-grows : goal.returns-clause-grows
 returns-clause-grows c =
     let all : take c.loop-r.r c.args.chosen.now ≡ c.args.chosen.now = take_all c.loop-r.r c.args.chosen.now c.loop-r-test.false in
@@ -44,12 +24,6 @@ pub returns-clause-delayed : goal.returns-clause-delayed
 returns-clause-delayed c =
     let all : take c.loop-r.r c.args.chosen.now ≡ c.args.chosen.now = take_all c.loop-r.r c.args.chosen.now c.loop-r-test.false in
     rw all at c.loop-r.invariant.delayed
-
-pub returns-in_err-bundle-clause-belongs : goal.returns-in_err-bundle-clause-belongs
-returns-in_err-bundle-clause-belongs c = c.in_err-bundle.ensures.belongs
-
-pub returns-in_err-push-clause-belongs : goal.returns-in_err-push-clause-belongs
-returns-in_err-push-clause-belongs c = c.in_ok-bundle.ensures.belongs
 
 pub returns-clause-belongs : goal.returns-clause-belongs
 returns-clause-belongs c = c.loop-r.invariant.belongs
@@ -93,3 +67,9 @@ loop-r-preserved c =
           (delayed_more _ _ _ _ c.args.items.now c.args.waits.now c.loop-r.r _ _ c.loop-r.late.items c.index-items-k.result c.in_ok-bundle.bundle
           many was.grows.grows.extends made.grows.grows.extends at made.nets (rw was.keeps.rst at made.late) was.delayed);
     }
+
+pub waited-requires-clause-room : goal.waited-requires-clause-room
+waited-requires-clause-room c =
+    room_behind _ (delay_most c.args.items.now c.args.waits.now c.args.chosen.now c.loop-r.r c.index-items-k.result
+    (item_at c.args.items.now c.args.chosen.now c.loop-r.r c.index-items-k.result c.requires.below c.loop-r-test.true c.index-items-k.is) c.requires.long
+    c.loop-r-test.true) c.loop-r.invariant.grows c.requires.room

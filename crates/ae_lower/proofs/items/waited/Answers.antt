@@ -24,30 +24,8 @@ pub tap-requires-clause-net : goal.tap-requires-clause-net
 tap-requires-clause-net c =
     own_later _ _ c.nets-nets.result.now _ c.loop-net.net-index c.nets-nets.ensures c.loop-net.invariant.adds.grows.extends c.requires.nets c.loop-net-test.true
 
-pub returns-in_err-tap-clause-keeps : goal.returns-in_err-tap-clause-keeps
-returns-in_err-tap-clause-keeps c = keeps_trans c.loop-net.invariant.keeps c.in_err-tap.ensures.keeps
-
-pub returns-in_err-tap-clause-grows : goal.returns-in_err-tap-clause-grows
-returns-in_err-tap-clause-grows c =
-    within c.args.slack (c.loop-net.net-index + 1) (length c.args.bundle.now) (omega (arith, c.loop-net-test.true, ap length c.nets-nets.ensures))
-    (next_tap c.args.slack c.loop-net.net-index c.loop-net.invariant.adds c.in_err-tap.ensures.adds)
-
-pub returns-in_err-push-clause-keeps : goal.returns-in_err-push-clause-keeps
-returns-in_err-push-clause-keeps c = keeps_trans c.loop-net.invariant.keeps c.in_ok-tap.ensures.keeps
-
-pub returns-in_err-push-clause-grows : goal.returns-in_err-push-clause-grows
-returns-in_err-push-clause-grows c =
-    within c.args.slack (c.loop-net.net-index + 1) (length c.args.bundle.now) (omega (arith, c.loop-net-test.true, ap length c.nets-nets.ensures))
-    (next_tap c.args.slack c.loop-net.net-index c.loop-net.invariant.adds c.in_ok-tap.ensures.adds)
-
 pub tap-requires-clause-belongs : goal.tap-requires-clause-belongs
 tap-requires-clause-belongs c = c.loop-net.invariant.belongs
-
-pub returns-in_err-tap-clause-belongs : goal.returns-in_err-tap-clause-belongs
-returns-in_err-tap-clause-belongs c = c.in_err-tap.ensures.belongs
-
-pub returns-in_err-push-clause-belongs : goal.returns-in_err-push-clause-belongs
-returns-in_err-push-clause-belongs c = c.in_ok-tap.ensures.belongs
 
 pub returns-clause-belongs : goal.returns-clause-belongs
 returns-clause-belongs c = c.loop-net.invariant.belongs
@@ -98,3 +76,10 @@ returns-clause-nets c =
 pub returns-clause-late : goal.returns-clause-late
 returns-clause-late c =
     late_of _ _ _ _ _ _ (tapped_all _ _ _ _ _ _ _ _ _ c.nets-nets.ensures c.new.ensures (omega arith) c.loop-net.invariant.taps)
+
+pub tap-requires-clause-room : goal.tap-requires-clause-room
+tap-requires-clause-room c =
+    let k : ℕ = c.loop-net.net-index in
+    let up : c.args.slack * (k + 1) ≤ c.args.slack * length c.args.bundle.now = mul-le-mul_left c.args.slack
+    (omega (arith, c.loop-net-test.true, ap length c.nets-nets.ensures)) in
+    omega (arith, c.requires.room, c.loop-net.invariant.adds.cells, c.loop-net.invariant.adds.grows.limit, up)

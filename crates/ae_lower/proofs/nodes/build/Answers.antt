@@ -1,10 +1,7 @@
-use Rattle.std.proofs.Common.{ℕ, ◌≡◌, ◌≢◌, true, false, ◌∙◌, ◌<◌, length, get_or, Result, Ok, Err, arith, ap, sym}
+use Rattle.std.proofs.Common.{ℕ, ◌≡◌, true, false, ◌∙◌, ◌<◌, length, get_or, arith, ap, sym}
 use Rattle.std.proofs.lemmas.List.{get_or_read}
-use Rattle.ae_netlist.specs.declared.netlist.NetFault.{NetFault}
-use Rattle.ae_netlist.specs.declared.netlist.NetFault.TheVariants.{Full}
 use Rattle.ae_netlist.specs.Circuit.{Circuit}
-use Rattle.ae_clocked.specs.Signals.{IsFullAt}
-use Rattle.ae_clocked.proofs.Adding.{grows_refl}
+use Rattle.ae_gates.proofs.Adding.{grows_refl}
 use Rattle.ae_clocked.proofs.Belonging.{keeps_same}
 use Rattle.ae_sttype.specs.StTree.{StTree, st_tree}
 use Rattle.ae_gather.specs.Gathers.{gather_part, move_of}
@@ -14,21 +11,16 @@ use Rattle.ae_rewrite.specs.Sound.{item_layout, item_layouts}
 use Rattle.ae_delay.specs.Moving.{constant_move, op_move}
 use Rattle.ae_lower.specs.Growth.{GrowsBy}
 use Rattle.ae_lower.specs.Parts.{part_behind}
-use Rattle.ae_lower.proofs.Placing.{node_adds, node_built, node_bundles, node_grows}
+use Rattle.ae_lower.proofs.Placing.{node_adds, node_built, node_bundles, node_grows, node_room}
 use Rattle.ae_lower.proofs.Folded.{fold_typed}
-use Rattle.ae_lower.proofs.Ready.{argument_at, fixed_node, fold_follows, fold_node, fold_shape, fold_short, move_node, only_low, ready_below, ready_item, ready_move, ready_some, scan_node}
+use Rattle.ae_lower.proofs.Ready.{argument_at, fixed_node, fold_follows, fold_node, fold_shape, fold_short, move_node, only_low, ready_below, ready_item, ready_move, ready_some, scan_node, raw_fold}
 use Rattle.ae_lower.proofs.WireNodes.{join_built, part_built}
 use Rattle.ae_lower.proofs.nodes.build.Goals as goal
-use Rattle.ae_lower.proofs.Growing.{if_ok_more as if_made}
 
 -- ---- where no cell is added
 
 none_added : (a : Circuit) (load : ℕ) → GrowsBy a a load
 none_added a load = record { grows = grows_refl a; cells = omega arith }
-
-not_full : {X : Type 0} (r : Result X NetFault) (a : Circuit) → r ≢ Err Full → IsFullAt r a
-not_full (Ok x) a h = tt
-not_full (Err e) a h = λ is. absurd (h (ap Err is))
 
 -- ---- constants
 
@@ -79,6 +71,11 @@ place-requires-in-Move-clause-does c =
 
 -- ---- folds
 
+pub reducing-requires-clause-raw : goal.reducing-requires-clause-raw
+reducing-requires-clause-raw c =
+    (raw_fold _ (st_func_tree c.args.s.now) (st_node_tree c.args.node.now) _ c.in-Fold.op c.in-Fold.slots c.in-Fold.lanes
+    (st_tree c.in-Fold.raw) c.requires.ready (ap st_op_tree c.in-Fold.is)).0.layout.size
+
 pub reducing-requires-clause-some : goal.reducing-requires-clause-some
 reducing-requires-clause-some c = ready_some _ (st_func_tree c.args.s.now) (st_node_tree c.args.node.now) _ c.requires.ready
 
@@ -110,32 +107,32 @@ fold_and_move-requires-clause-short c =
     (st_tree c.in-Fold.raw) c.in_ok-fold-in-Fold.fold c.requires.ready (ap st_op_tree c.in-Fold.is)
     c.in_ok-fold-in-Fold.ensures.is
 
-pub returns-in_ok-fold-in-Fold-clause-grows : goal.returns-in_ok-fold-in-Fold-clause-grows
-returns-in_ok-fold-in-Fold-clause-grows c =
+pub returns-in_ok-out-in-Fold-clause-grows : goal.returns-in_ok-out-in-Fold-clause-grows
+returns-in_ok-out-in-Fold-clause-grows c =
     node_grows _ _ (st_func_tree c.args.s.now) (st_node_tree c.args.node.now)
     (part_behind (reduce_part c.in_ok-fold-in-Fold.fold) (gather_part (move_of c.in_ok-moved-in-Fold.moved)))
     (fold_node _ (st_func_tree c.args.s.now) (st_node_tree c.args.node.now) _ c.in-Fold.op c.in-Fold.slots c.in-Fold.lanes
     (st_tree c.in-Fold.raw) c.in_ok-fold-in-Fold.fold (move_of c.in_ok-moved-in-Fold.moved) c.requires.ready
     (ap st_op_tree c.in-Fold.is) c.in_ok-fold-in-Fold.ensures.is c.in_ok-moved-in-Fold.ensures.is)
-    c.fold_and_move.ensures.grows c.fold_and_move.ensures.cells
+    c.in_ok-out-in-Fold.ensures.grows c.in_ok-out-in-Fold.ensures.cells
 
-pub returns-in_ok-fold-in-Fold-clause-adds : goal.returns-in_ok-fold-in-Fold-clause-adds
-returns-in_ok-fold-in-Fold-clause-adds c =
-    node_adds _ _ _ (st_func_tree c.args.s.now) (st_node_tree c.args.node.now)
+pub returns-in_ok-out-in-Fold-clause-adds : goal.returns-in_ok-out-in-Fold-clause-adds
+returns-in_ok-out-in-Fold-clause-adds c =
+    node_adds _ _ (st_func_tree c.args.s.now) (st_node_tree c.args.node.now)
     (part_behind (reduce_part c.in_ok-fold-in-Fold.fold) (gather_part (move_of c.in_ok-moved-in-Fold.moved)))
     (fold_node _ (st_func_tree c.args.s.now) (st_node_tree c.args.node.now) _ c.in-Fold.op c.in-Fold.slots c.in-Fold.lanes
     (st_tree c.in-Fold.raw) c.in_ok-fold-in-Fold.fold (move_of c.in_ok-moved-in-Fold.moved) c.requires.ready
     (ap st_op_tree c.in-Fold.is) c.in_ok-fold-in-Fold.ensures.is c.in_ok-moved-in-Fold.ensures.is)
-    c.fold_and_move.ensures.muls c.fold_and_move.ensures.memories c.fold_and_move.ensures.whole
+    c.in_ok-out-in-Fold.ensures.muls c.in_ok-out-in-Fold.ensures.memories c.in_ok-out-in-Fold.ensures.whole
 
-pub returns-in_ok-fold-in-Fold-clause-built : goal.returns-in_ok-fold-in-Fold-clause-built
-returns-in_ok-fold-in-Fold-clause-built c =
-    node_built _ _ _ _ (st_func_tree c.args.s.now) (st_node_tree c.args.node.now)
-    (part_behind (reduce_part c.in_ok-fold-in-Fold.fold) (gather_part (move_of c.in_ok-moved-in-Fold.moved))) _
+pub returns-in_ok-out-in-Fold-clause-built : goal.returns-in_ok-out-in-Fold-clause-built
+returns-in_ok-out-in-Fold-clause-built c =
+    node_built _ _ _ (st_func_tree c.args.s.now) (st_node_tree c.args.node.now)
+    (part_behind (reduce_part c.in_ok-fold-in-Fold.fold) (gather_part (move_of c.in_ok-moved-in-Fold.moved))) _ c.in_ok-out-in-Fold.out
     (fold_node _ (st_func_tree c.args.s.now) (st_node_tree c.args.node.now) _ c.in-Fold.op c.in-Fold.slots c.in-Fold.lanes
     (st_tree c.in-Fold.raw) c.in_ok-fold-in-Fold.fold (move_of c.in_ok-moved-in-Fold.moved) c.requires.ready
     (ap st_op_tree c.in-Fold.is) c.in_ok-fold-in-Fold.ensures.is c.in_ok-moved-in-Fold.ensures.is)
-    c.fold_and_move.ensures.bundle c.fold_and_move.ensures.law
+    c.in_ok-out-in-Fold.ensures.bundle c.in_ok-out-in-Fold.ensures.law
 
 -- ---- scans
 
@@ -149,51 +146,46 @@ place-requires-in-Scan-clause-does c =
 
 -- ---- wires
 
-pub returns-in-Join-clause-built : goal.returns-in-Join-clause-built
-returns-in-Join-clause-built c =
-    if_made c.pairs_of.result _ _
-    (λ y are known. join_built known (st_func_tree c.args.s.now)
-    (st_node_tree c.args.node.now) c.args.nl.now c.args.clocks.now.rst c.args.at c.args.args.now y c.requires.ready (ap st_op_tree c.in-Join.is) are)
-    c.pairs_of.ensures.pairs
+pub returns-in_ok-out-in-Join-clause-built : goal.returns-in_ok-out-in-Join-clause-built
+returns-in_ok-out-in-Join-clause-built c =
+    λ known. join_built known (st_func_tree c.args.s.now)
+    (st_node_tree c.args.node.now) c.args.nl.now c.args.clocks.now.rst c.args.at c.args.args.now c.in_ok-out-in-Join.out c.requires.ready
+    (ap st_op_tree c.in-Join.is) c.in_ok-out-in-Join.ensures.pairs
 
-pub returns-in-First-clause-built : goal.returns-in-First-clause-built
-returns-in-First-clause-built c =
-    if_made c.part_of.result _ _
-    (λ y are known. part_built known (st_func_tree c.args.s.now)
-    (st_node_tree c.args.node.now) c.args.nl.now c.args.clocks.now.rst c.args.at c.args.args.now true y c.requires.ready (ap st_op_tree c.in-First.is) are)
-    c.part_of.ensures.parts
+pub returns-in_ok-out-in-First-clause-built : goal.returns-in_ok-out-in-First-clause-built
+returns-in_ok-out-in-First-clause-built c =
+    λ known. part_built known (st_func_tree c.args.s.now)
+    (st_node_tree c.args.node.now) c.args.nl.now c.args.clocks.now.rst c.args.at c.args.args.now true c.in_ok-out-in-First.out c.requires.ready
+    (ap st_op_tree c.in-First.is) c.in_ok-out-in-First.ensures.parts
 
-pub returns-in-Second-clause-built : goal.returns-in-Second-clause-built
-returns-in-Second-clause-built c =
-    if_made c.part_of-in-Second.result _ _
-    (λ y are known. part_built known (st_func_tree c.args.s.now)
-    (st_node_tree c.args.node.now) c.args.nl.now c.args.clocks.now.rst c.args.at c.args.args.now false y c.requires.ready
-    (ap st_op_tree c.in-Second.is) are)
-    c.part_of-in-Second.ensures.parts
+pub returns-in_ok-out-in-Second-clause-built : goal.returns-in_ok-out-in-Second-clause-built
+returns-in_ok-out-in-Second-clause-built c =
+    λ known. part_built known (st_func_tree c.args.s.now)
+    (st_node_tree c.args.node.now) c.args.nl.now c.args.clocks.now.rst c.args.at c.args.args.now false c.in_ok-out-in-Second.out c.requires.ready
+    (ap st_op_tree c.in-Second.is) c.in_ok-out-in-Second.ensures.parts
 
-pub returns-in-Join-clause-keeps : goal.returns-in-Join-clause-keeps
-returns-in-Join-clause-keeps c = keeps_same _
+pub returns-in_ok-out-in-Join-clause-keeps : goal.returns-in_ok-out-in-Join-clause-keeps
+returns-in_ok-out-in-Join-clause-keeps c = keeps_same _
 
-pub returns-in-Join-clause-grows : goal.returns-in-Join-clause-grows
-returns-in-Join-clause-grows c = none_added _ _
+pub returns-in_ok-out-in-Join-clause-grows : goal.returns-in_ok-out-in-Join-clause-grows
+returns-in_ok-out-in-Join-clause-grows c = none_added _ _
 
-pub returns-in-Join-clause-full : goal.returns-in-Join-clause-full
-returns-in-Join-clause-full c = not_full c.pairs_of.result c.args.nl.now c.pairs_of.ensures.fault
+pub returns-in_ok-out-in-First-clause-keeps : goal.returns-in_ok-out-in-First-clause-keeps
+returns-in_ok-out-in-First-clause-keeps c = keeps_same _
 
-pub returns-in-First-clause-keeps : goal.returns-in-First-clause-keeps
-returns-in-First-clause-keeps c = keeps_same _
+pub returns-in_ok-out-in-First-clause-grows : goal.returns-in_ok-out-in-First-clause-grows
+returns-in_ok-out-in-First-clause-grows c = none_added _ _
 
-pub returns-in-First-clause-grows : goal.returns-in-First-clause-grows
-returns-in-First-clause-grows c = none_added _ _
+pub returns-in_ok-out-in-Second-clause-keeps : goal.returns-in_ok-out-in-Second-clause-keeps
+returns-in_ok-out-in-Second-clause-keeps c = keeps_same _
 
-pub returns-in-First-clause-full : goal.returns-in-First-clause-full
-returns-in-First-clause-full c = not_full c.part_of.result c.args.nl.now c.part_of.ensures.fault
+pub returns-in_ok-out-in-Second-clause-grows : goal.returns-in_ok-out-in-Second-clause-grows
+returns-in_ok-out-in-Second-clause-grows c = none_added _ _
 
-pub returns-in-Second-clause-keeps : goal.returns-in-Second-clause-keeps
-returns-in-Second-clause-keeps c = keeps_same _
-
-pub returns-in-Second-clause-grows : goal.returns-in-Second-clause-grows
-returns-in-Second-clause-grows c = none_added _ _
-
-pub returns-in-Second-clause-full : goal.returns-in-Second-clause-full
-returns-in-Second-clause-full c = not_full c.part_of-in-Second.result c.args.nl.now c.part_of-in-Second.ensures.fault
+pub fold_and_move-requires-clause-room : goal.fold_and_move-requires-clause-room
+fold_and_move-requires-clause-room c =
+    node_room c.args.nl.now (st_func_tree c.args.s.now) (st_node_tree c.args.node.now)
+    (part_behind (reduce_part c.in_ok-fold-in-Fold.fold) (gather_part (move_of c.in_ok-moved-in-Fold.moved)))
+    (fold_node _ (st_func_tree c.args.s.now) (st_node_tree c.args.node.now) _ c.in-Fold.op c.in-Fold.slots c.in-Fold.lanes
+    (st_tree c.in-Fold.raw) c.in_ok-fold-in-Fold.fold (move_of c.in_ok-moved-in-Fold.moved) c.requires.ready
+    (ap st_op_tree c.in-Fold.is) c.in_ok-fold-in-Fold.ensures.is c.in_ok-moved-in-Fold.ensures.is) c.requires.room

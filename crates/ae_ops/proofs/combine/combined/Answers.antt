@@ -10,4 +10,4 @@ compute-requires-clause-operands c =
     fold_operands c.args.op (IsNet c.args.nl.now.cells) c.args.a c.args.b c.args.width c.requires.folds c.requires.left c.requires.right
 
 pub returns-clause-net : goal.returns-clause-net
-returns-clause-net c = rw (fold_width c.args.op c.args.width c.requires.folds) at c.compute.ensures.net
+returns-clause-net c = rw (fold_width c.args.op c.args.width c.requires.folds) at c.in_ok-y.ensures.net

@@ -1,13 +1,13 @@
 -- Both results, and a choice by the sign.
 use Rattle.std.proofs.Common.{◌∙◌, arith}
 use Rattle.ae_netlist.proofs.Carried.{carries_later}
-use Rattle.ae_clocked.proofs.Adding.{adds_most, adds_trans, net_added}
-use Rattle.ae_clocked.proofs.Added.{back, grows_length}
+use Rattle.ae_gates.proofs.Adding.{adds_trans, net_added}
+use Rattle.ae_gates.proofs.Added.{back, grows_length}
 use Rattle.ae_ops.proofs.SignWords.{chosen, half_fits}
 use Rattle.ae_ops.proofs.compute.by_sign.Goals as goal
 
-pub constant-requires : goal.constant-requires
-constant-requires c = rw c.half.ensures (half_fits c.args.width c.limits.ensures.0)
+pub constant-requires-clause-fits : goal.constant-requires-clause-fits
+constant-requires-clause-fits c = rw c.half.ensures (half_fits c.args.width c.limits.ensures.0)
 
 pub less-requires-clause-left : goal.less-requires-clause-left
 less-requires-clause-left c = net_added c.in_ok-middle.ensures.adds c.requires.net
@@ -27,26 +27,6 @@ choose-requires-clause-left c = rw c.result_width.ensures (net_added c.in_ok-tur
 
 pub choose-requires-clause-right : goal.choose-requires-clause-right
 choose-requires-clause-right c = rw c.result_width.ensures c.in_ok-turned.ensures.net
-
-pub returns-in_err-middle-clause-adds : goal.returns-in_err-middle-clause-adds
-returns-in_err-middle-clause-adds c = adds_most 7 (omega arith) c.in_err-middle.ensures.adds
-
-pub returns-in_err-positive-clause-adds : goal.returns-in_err-positive-clause-adds
-returns-in_err-positive-clause-adds c = adds_most 7 (omega arith) (adds_trans c.in_ok-middle.ensures.adds c.in_err-positive.ensures.adds)
-
-pub returns-in_err-made-clause-adds : goal.returns-in_err-made-clause-adds
-returns-in_err-made-clause-adds c =
-    adds_most 7 (omega arith) (adds_trans (adds_trans c.in_ok-middle.ensures.adds c.in_ok-positive.ensures.adds) c.in_err-made.ensures.adds)
-
-pub returns-in_err-turned-clause-adds : goal.returns-in_err-turned-clause-adds
-returns-in_err-turned-clause-adds c =
-    adds_most 7 (omega arith) (adds_trans (adds_trans (adds_trans c.in_ok-middle.ensures.adds c.in_ok-positive.ensures.adds) c.in_ok-made.ensures.adds)
-    c.in_err-turned.ensures.adds)
-
-pub returns-in_err-chosen-clause-adds : goal.returns-in_err-chosen-clause-adds
-returns-in_err-chosen-clause-adds c =
-    adds_trans (adds_trans (adds_trans (adds_trans c.in_ok-middle.ensures.adds c.in_ok-positive.ensures.adds) c.in_ok-made.ensures.adds)
-    c.in_ok-turned.ensures.adds) c.in_err-chosen.ensures.adds
 
 pub returns-clause-adds : goal.returns-clause-adds
 returns-clause-adds c =
@@ -76,3 +56,45 @@ returns-clause-words c = λ all k5 run is t l.
     (c.in_ok-made.ensures.words all (carries_later _ _ (omega arith) k3) run is t l)
     (c.in_ok-turned.ensures.words all (carries_later _ _ (omega arith) k4) run is t l)
     (c.in_ok-chosen.ensures.words all (carries_later _ _ (omega arith) k5) run is t l)
+
+pub less-requires-clause-room : goal.less-requires-clause-room
+less-requires-clause-room c = omega (arith, c.requires.room, c.in_ok-middle.ensures.adds.cells, c.in_ok-middle.ensures.adds.grows.limit)
+
+pub on_one-requires-clause-room : goal.on_one-requires-clause-room
+on_one-requires-clause-room c =
+    omega (
+      arith,
+      c.requires.room,
+      c.in_ok-middle.ensures.adds.cells,
+      c.in_ok-middle.ensures.adds.grows.limit,
+      c.in_ok-positive.ensures.adds.cells,
+      c.in_ok-positive.ensures.adds.grows.limit,
+    )
+
+pub complemented-requires-clause-room : goal.complemented-requires-clause-room
+complemented-requires-clause-room c =
+    omega (
+      arith,
+      c.requires.room,
+      c.in_ok-middle.ensures.adds.cells,
+      c.in_ok-middle.ensures.adds.grows.limit,
+      c.in_ok-positive.ensures.adds.cells,
+      c.in_ok-positive.ensures.adds.grows.limit,
+      c.in_ok-made.ensures.adds.cells,
+      c.in_ok-made.ensures.adds.grows.limit,
+    )
+
+pub choose-requires-clause-room : goal.choose-requires-clause-room
+choose-requires-clause-room c =
+    omega (
+      arith,
+      c.requires.room,
+      c.in_ok-middle.ensures.adds.cells,
+      c.in_ok-middle.ensures.adds.grows.limit,
+      c.in_ok-positive.ensures.adds.cells,
+      c.in_ok-positive.ensures.adds.grows.limit,
+      c.in_ok-made.ensures.adds.cells,
+      c.in_ok-made.ensures.adds.grows.limit,
+      c.in_ok-turned.ensures.adds.cells,
+      c.in_ok-turned.ensures.adds.grows.limit,
+    )

@@ -1,22 +1,13 @@
 -- Three cells, one behind the other.
 use Rattle.std.proofs.Common.{arith}
 use Rattle.ae_netlist.proofs.Carried.{carries_later}
-use Rattle.ae_clocked.proofs.Adding.{adds_most, adds_trans}
-use Rattle.ae_clocked.proofs.Added.{back, grows_length}
+use Rattle.ae_gates.proofs.Adding.{adds_trans}
+use Rattle.ae_gates.proofs.Added.{back, grows_length}
 use Rattle.ae_ops.proofs.SignWords.{complement_is}
 use Rattle.ae_ops.proofs.compute.complemented.Goals as goal
 
 pub on_one-requires-3-clause-net : goal.on_one-requires-3-clause-net
 on_one-requires-3-clause-net c = rw c.result_width.ensures c.in_ok-made.ensures.net
-
-pub returns-in_err-turned-clause-adds : goal.returns-in_err-turned-clause-adds
-returns-in_err-turned-clause-adds c = adds_most 3 (omega arith) c.in_err-turned.ensures.adds
-
-pub returns-in_err-made-clause-adds : goal.returns-in_err-made-clause-adds
-returns-in_err-made-clause-adds c = adds_most 3 (omega arith) (adds_trans c.in_ok-turned.ensures.adds c.in_err-made.ensures.adds)
-
-pub returns-in_err-back-clause-adds : goal.returns-in_err-back-clause-adds
-returns-in_err-back-clause-adds c = adds_trans (adds_trans c.in_ok-turned.ensures.adds c.in_ok-made.ensures.adds) c.in_err-back.ensures.adds
 
 pub returns-clause-adds : goal.returns-clause-adds
 returns-clause-adds c = adds_trans (adds_trans c.in_ok-turned.ensures.adds c.in_ok-made.ensures.adds) c.in_ok-back.ensures.adds
@@ -36,3 +27,17 @@ returns-clause-words c = λ all k3 run is t l.
     (c.in_ok-turned.ensures.words all k1 run is t l)
     (c.in_ok-made.ensures.words all (carries_later _ _ l1 k2) run is t l)
     (c.in_ok-back.ensures.words all (carries_later _ _ (omega arith) k3) run is t l)
+
+pub on_one-requires-2-clause-room : goal.on_one-requires-2-clause-room
+on_one-requires-2-clause-room c = omega (arith, c.requires.room, c.in_ok-turned.ensures.adds.cells, c.in_ok-turned.ensures.adds.grows.limit)
+
+pub on_one-requires-3-clause-room : goal.on_one-requires-3-clause-room
+on_one-requires-3-clause-room c =
+    omega (
+      arith,
+      c.requires.room,
+      c.in_ok-turned.ensures.adds.cells,
+      c.in_ok-turned.ensures.adds.grows.limit,
+      c.in_ok-made.ensures.adds.cells,
+      c.in_ok-made.ensures.adds.grows.limit,
+    )

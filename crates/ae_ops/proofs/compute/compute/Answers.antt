@@ -3,14 +3,14 @@ use Rattle.std.proofs.Common.{◌≡◌, arith, false, refl}
 use Rattle.ae_word.specs.WordTable.{is_signed}
 use Rattle.ae_word.specs.declared.op.WordOp.TheVariants.{SLt, SMax, SMin}
 use Rattle.ae_netlist.specs.Circuit.{IsNet}
-use Rattle.ae_clocked.proofs.Adding.{adds_most}
+use Rattle.ae_gates.proofs.Adding.{adds_most}
 use Rattle.ae_netlist.proofs.Growing.{main_is}
-use Rattle.ae_clocked.proofs.Added.{result_at}
-use Rattle.ae_ops.proofs.Computing.{cast_words, most_of, operation_of, pair_operands, passed_with, refused_with, sar_words, unchanged_of}
+use Rattle.ae_gates.proofs.Added.{result_at}
+use Rattle.ae_ops.proofs.Computing.{cast_words, most_of, operation_of, pair_operands, sar_words}
 use Rattle.ae_ops.proofs.compute.compute.Goals as goal
 
-pub operate-requires : goal.operate-requires
-operate-requires c =
+pub operate-requires-clause-operation : goal.operate-requires-clause-operation
+operate-requires-clause-operation c =
     let plain : is_signed c.args.op ≡ false = grind (arith, c.in-Add.is) in
     rw c.result_width.ensures (operation_of _ _ _ c.args.width plain c.requires.range c.requires.operands)
 
@@ -21,10 +21,7 @@ pub less_signed-requires-clause-right : goal.less_signed-requires-clause-right
 less_signed-requires-clause-right c = (pair_operands SLt (IsNet c.args.nl.now.cells) c.args.args c.args.width refl (rw c.in-SLt.is at c.requires.operands)).1
 
 pub returns-in-SLt-clause-adds : goal.returns-in-SLt-clause-adds
-returns-in-SLt-clause-adds c = rw c.in-SLt.is (passed_with c.less_signed.result (adds_most 8 (omega arith) c.less_signed.ensures.adds))
-
-pub returns-in-SLt-clause-err : goal.returns-in-SLt-clause-err
-returns-in-SLt-clause-err c = refused_with c.less_signed.result (adds_most 8 (omega arith) c.less_signed.ensures.adds)
+returns-in-SLt-clause-adds c = rw c.in-SLt.is (most_of _ _ c.less_signed.result 4 _ (omega arith) c.less_signed.ensures.adds)
 
 pub returns-in-SLt-clause-net : goal.returns-in-SLt-clause-net
 returns-in-SLt-clause-net c = rw c.in-SLt.is c.less_signed.ensures.net
@@ -39,10 +36,7 @@ pub least_signed-requires-clause-right : goal.least_signed-requires-clause-right
 least_signed-requires-clause-right c = (pair_operands SMin (IsNet c.args.nl.now.cells) c.args.args c.args.width refl (rw c.in-SMin.is at c.requires.operands)).1
 
 pub returns-in-SMin-clause-adds : goal.returns-in-SMin-clause-adds
-returns-in-SMin-clause-adds c = rw c.in-SMin.is (passed_with c.least_signed.result (adds_most 8 (omega arith) c.least_signed.ensures.adds))
-
-pub returns-in-SMin-clause-err : goal.returns-in-SMin-clause-err
-returns-in-SMin-clause-err c = refused_with c.least_signed.result (adds_most 8 (omega arith) c.least_signed.ensures.adds)
+returns-in-SMin-clause-adds c = rw c.in-SMin.is (most_of _ _ c.least_signed.result 5 _ (omega arith) c.least_signed.ensures.adds)
 
 pub returns-in-SMin-clause-net : goal.returns-in-SMin-clause-net
 returns-in-SMin-clause-net c = rw c.in-SMin.is c.least_signed.ensures.net
@@ -59,10 +53,7 @@ greatest_signed-requires-clause-right c =
     (pair_operands SMax (IsNet c.args.nl.now.cells) c.args.args c.args.width refl (rw c.in-SMax.is at c.requires.operands)).1
 
 pub returns-in-SMax-clause-adds : goal.returns-in-SMax-clause-adds
-returns-in-SMax-clause-adds c = rw c.in-SMax.is (passed_with c.greatest_signed.result (adds_most 8 (omega arith) c.greatest_signed.ensures.adds))
-
-pub returns-in-SMax-clause-err : goal.returns-in-SMax-clause-err
-returns-in-SMax-clause-err c = refused_with c.greatest_signed.result (adds_most 8 (omega arith) c.greatest_signed.ensures.adds)
+returns-in-SMax-clause-adds c = rw c.in-SMax.is (most_of _ _ c.greatest_signed.result 5 _ (omega arith) c.greatest_signed.ensures.adds)
 
 pub returns-in-SMax-clause-net : goal.returns-in-SMax-clause-net
 returns-in-SMax-clause-net c = rw c.in-SMax.is c.greatest_signed.ensures.net
@@ -73,42 +64,34 @@ returns-in-SMax-clause-words c = rw c.in-SMax.is c.greatest_signed.ensures.words
 pub by_sign-requires-clause-net : goal.by_sign-requires-clause-net
 by_sign-requires-clause-net c = (rw c.in-Sar.is at c.requires.operands).0
 
-pub returns-in-Sar-clause-adds : goal.returns-in-Sar-clause-adds
-returns-in-Sar-clause-adds c = rw c.in-Sar.is (passed_with c.by_sign.result (adds_most 8 (omega arith) c.by_sign.ensures.adds))
+pub returns-in_ok-y-in-Sar-clause-adds : goal.returns-in_ok-y-in-Sar-clause-adds
+returns-in_ok-y-in-Sar-clause-adds c = rw c.in-Sar.is (adds_most 8 (omega arith) c.in_ok-y-in-Sar.ensures.adds)
 
-pub returns-in-Sar-clause-err : goal.returns-in-Sar-clause-err
-returns-in-Sar-clause-err c = refused_with c.by_sign.result (adds_most 8 (omega arith) c.by_sign.ensures.adds)
-
-pub returns-in-Sar-clause-net : goal.returns-in-Sar-clause-net
-returns-in-Sar-clause-net c = rw c.in-Sar.is c.by_sign.ensures.net
+pub returns-in_ok-y-in-Sar-clause-net : goal.returns-in_ok-y-in-Sar-clause-net
+returns-in_ok-y-in-Sar-clause-net c = rw c.in-Sar.is c.in_ok-y-in-Sar.ensures.net
 
 pub by_sign-requires-in-SCast-clause-net : goal.by_sign-requires-in-SCast-clause-net
 by_sign-requires-in-SCast-clause-net c = (rw c.in-SCast.is at c.requires.operands).0
 
-pub returns-in-SCast-clause-adds : goal.returns-in-SCast-clause-adds
-returns-in-SCast-clause-adds c = rw c.in-SCast.is (passed_with c.by_sign-in-SCast.result (adds_most 8 (omega arith) c.by_sign-in-SCast.ensures.adds))
+pub returns-in_ok-y-in-SCast-clause-adds : goal.returns-in_ok-y-in-SCast-clause-adds
+returns-in_ok-y-in-SCast-clause-adds c = rw c.in-SCast.is (adds_most 8 (omega arith) c.in_ok-y-in-SCast.ensures.adds)
 
-pub returns-in-SCast-clause-err : goal.returns-in-SCast-clause-err
-returns-in-SCast-clause-err c = refused_with c.by_sign-in-SCast.result (adds_most 8 (omega arith) c.by_sign-in-SCast.ensures.adds)
+pub returns-in_ok-y-in-SCast-clause-net : goal.returns-in_ok-y-in-SCast-clause-net
+returns-in_ok-y-in-SCast-clause-net c = rw c.in-SCast.is c.in_ok-y-in-SCast.ensures.net
 
-pub returns-in-SCast-clause-net : goal.returns-in-SCast-clause-net
-returns-in-SCast-clause-net c = rw c.in-SCast.is c.by_sign-in-SCast.ensures.net
+pub returns-in_ok-y-in-Sar-clause-words : goal.returns-in_ok-y-in-Sar-clause-words
+returns-in_ok-y-in-Sar-clause-words c =
+    sar_words _ _ c.in_ok-y-in-Sar.y _ c.args.args c.in-Sar.k c.args.width c.in-Sar.is c.in_ok-y-in-Sar.ensures.adds.grows
+    (rw c.in-Sar.is at c.requires.operands).0
+    c.in_ok-y-in-Sar.ensures.words
 
-pub returns-in-Sar-clause-words : goal.returns-in-Sar-clause-words
-returns-in-Sar-clause-words c =
-    sar_words _ _ c.by_sign.result _ c.args.args c.in-Sar.k c.args.width c.in-Sar.is c.by_sign.ensures.adds.grows (rw c.in-Sar.is at c.requires.operands).0
-    c.by_sign.ensures.words
-
-pub returns-in-SCast-clause-words : goal.returns-in-SCast-clause-words
-returns-in-SCast-clause-words c =
-    cast_words _ _ c.by_sign-in-SCast.result _ c.args.args c.in-SCast.v c.args.width c.in-SCast.is c.by_sign-in-SCast.ensures.adds.grows
-    (rw c.in-SCast.is at c.requires.operands).0 c.by_sign-in-SCast.ensures.words
+pub returns-in_ok-y-in-SCast-clause-words : goal.returns-in_ok-y-in-SCast-clause-words
+returns-in_ok-y-in-SCast-clause-words c =
+    cast_words _ _ c.in_ok-y-in-SCast.y _ c.args.args c.in-SCast.v c.args.width c.in-SCast.is c.in_ok-y-in-SCast.ensures.adds.grows
+    (rw c.in-SCast.is at c.requires.operands).0 c.in_ok-y-in-SCast.ensures.words
 
 pub returns-in-Add-clause-adds : goal.returns-in-Add-clause-adds
 returns-in-Add-clause-adds c = most_of _ _ c.operate.result 1 _ (omega arith) c.operate.ensures.adds
-
-pub returns-in-Add-clause-err : goal.returns-in-Add-clause-err
-returns-in-Add-clause-err c = unchanged_of _ _ c.operate.result c.operate.ensures.err
 
 pub returns-in-Add-clause-words : goal.returns-in-Add-clause-words
 returns-in-Add-clause-words c =

@@ -1,14 +1,14 @@
 -- Half of all codes added to both, and the comparison of the sums.
 use Rattle.std.proofs.Common.{◌∙◌, arith}
 use Rattle.ae_netlist.proofs.Carried.{carries_later}
-use Rattle.ae_clocked.proofs.Adding.{adds_most, adds_trans, net_added}
-use Rattle.ae_clocked.proofs.Added.{back, grows_length}
-use Rattle.ae_ops.proofs.Computing.{held_fits}
+use Rattle.ae_gates.proofs.Adding.{adds_trans, net_added}
+use Rattle.ae_gates.proofs.Added.{back, grows_length}
+use Rattle.ae_gates.proofs.Fits.{held_fits}
 use Rattle.ae_ops.proofs.SignWords.{half_fits, raised_less}
 use Rattle.ae_ops.proofs.compute.less_signed.Goals as goal
 
-pub constant-requires : goal.constant-requires
-constant-requires c = rw c.half.ensures (half_fits c.args.width c.limits.ensures.0)
+pub constant-requires-clause-fits : goal.constant-requires-clause-fits
+constant-requires-clause-fits c = rw c.half.ensures (half_fits c.args.width c.limits.ensures.0)
 
 pub sum-requires-clause-left : goal.sum-requires-clause-left
 sum-requires-clause-left c = net_added c.in_ok-middle.ensures.adds c.requires.left
@@ -21,20 +21,6 @@ sum-requires-2-clause-right c = net_added c.in_ok-left.ensures.adds c.in_ok-midd
 
 pub less-requires-clause-left : goal.less-requires-clause-left
 less-requires-clause-left c = net_added c.in_ok-right.ensures.adds c.in_ok-left.ensures.net
-
-pub returns-in_err-middle-clause-adds : goal.returns-in_err-middle-clause-adds
-returns-in_err-middle-clause-adds c = adds_most 4 (omega arith) c.in_err-middle.ensures.adds
-
-pub returns-in_err-left-clause-adds : goal.returns-in_err-left-clause-adds
-returns-in_err-left-clause-adds c = adds_most 4 (omega arith) (adds_trans c.in_ok-middle.ensures.adds c.in_err-left.ensures.adds)
-
-pub returns-in_err-right-clause-adds : goal.returns-in_err-right-clause-adds
-returns-in_err-right-clause-adds c =
-    adds_most 4 (omega arith) (adds_trans (adds_trans c.in_ok-middle.ensures.adds c.in_ok-left.ensures.adds) c.in_err-right.ensures.adds)
-
-pub returns-in_err-below-clause-adds : goal.returns-in_err-below-clause-adds
-returns-in_err-below-clause-adds c =
-    adds_trans (adds_trans (adds_trans c.in_ok-middle.ensures.adds c.in_ok-left.ensures.adds) c.in_ok-right.ensures.adds) c.in_err-below.ensures.adds
 
 pub returns-clause-adds : goal.returns-clause-adds
 returns-clause-adds c =
@@ -58,3 +44,30 @@ returns-clause-words c = λ all k4 run is t l.
     (c.in_ok-left.ensures.words all (carries_later _ _ l1 k2) run is t l)
     (c.in_ok-right.ensures.words all (carries_later _ _ (omega arith) k3) run is t l)
     (c.in_ok-below.ensures.words all (carries_later _ _ (omega arith) k4) run is t l)
+
+pub sum-requires-clause-room : goal.sum-requires-clause-room
+sum-requires-clause-room c = omega (arith, c.requires.room, c.in_ok-middle.ensures.adds.cells, c.in_ok-middle.ensures.adds.grows.limit)
+
+pub sum-requires-2-clause-room : goal.sum-requires-2-clause-room
+sum-requires-2-clause-room c =
+    omega (
+      arith,
+      c.requires.room,
+      c.in_ok-middle.ensures.adds.cells,
+      c.in_ok-middle.ensures.adds.grows.limit,
+      c.in_ok-left.ensures.adds.cells,
+      c.in_ok-left.ensures.adds.grows.limit,
+    )
+
+pub less-requires-clause-room : goal.less-requires-clause-room
+less-requires-clause-room c =
+    omega (
+      arith,
+      c.requires.room,
+      c.in_ok-middle.ensures.adds.cells,
+      c.in_ok-middle.ensures.adds.grows.limit,
+      c.in_ok-left.ensures.adds.cells,
+      c.in_ok-left.ensures.adds.grows.limit,
+      c.in_ok-right.ensures.adds.cells,
+      c.in_ok-right.ensures.adds.grows.limit,
+    )

@@ -1,6 +1,7 @@
 -- One line more, and at the end a line for each net.
-use Rattle.std.proofs.Common.{ℕ, ◌≡◌, ◌∙◌, ◌+◌, ◌*◌, ◌++◌, ◌∷◌, [], arith, refl}
-use Rattle.ae_clocked.proofs.Adding.{grows_trans}
+use Rattle.std.proofs.Common.{length, ℕ, ◌≡◌, ◌∙◌, ◌+◌, ◌*◌, ◌++◌, ◌∷◌, [], arith, refl}
+use Rattle.ae_gates.proofs.Adding.{grows_trans}
+use Rattle.ae_clocked.specs.Delays.{line_cells}
 use Rattle.ae_clocked.specs.Rings.{rings}
 use Rattle.ae_ops.proofs.Lateness.{cells_within, late_of, line_one, nets_of, own_later, rings_one, same_width, tapped_all, tapping_more, there}
 use Rattle.ae_ops.proofs.late.delay.Goals as goal
@@ -12,18 +13,6 @@ ring_line-requires-clause-net c =
 
 pub ring_line-requires-clause-belongs : goal.ring_line-requires-clause-belongs
 ring_line-requires-clause-belongs c = c.loop-net.invariant.belongs
-
-pub returns-in_err-tapped-clause-belongs : goal.returns-in_err-tapped-clause-belongs
-returns-in_err-tapped-clause-belongs c = c.in_err-tapped.ensures.belongs
-
-pub returns-in_err-tapped-clause-muls : goal.returns-in_err-tapped-clause-muls
-returns-in_err-tapped-clause-muls c = c.in_err-tapped.ensures.muls ∙ c.loop-net.invariant.muls
-
-pub returns-in_err-push-clause-belongs : goal.returns-in_err-push-clause-belongs
-returns-in_err-push-clause-belongs c = c.in_ok-tapped.ensures.belongs
-
-pub returns-in_err-push-clause-muls : goal.returns-in_err-push-clause-muls
-returns-in_err-push-clause-muls c = c.in_ok-tapped.ensures.muls ∙ c.loop-net.invariant.muls
 
 pub returns-clause-belongs : goal.returns-clause-belongs
 returns-clause-belongs c = c.loop-net.invariant.belongs
@@ -40,50 +29,10 @@ returns-clause-muls c = c.loop-net.invariant.muls
 pub returns-clause-whole : goal.returns-clause-whole
 returns-clause-whole c = c.loop-net.invariant.whole
 
-pub returns-in_err-tapped-clause-keeps : goal.returns-in_err-tapped-clause-keeps
-returns-in_err-tapped-clause-keeps c = keeps_trans c.loop-net.invariant.keeps c.in_err-tapped.ensures.keeps
-
-pub returns-in_err-tapped-clause-grows : goal.returns-in_err-tapped-clause-grows
-returns-in_err-tapped-clause-grows c = grows_trans c.loop-net.invariant.grows c.in_err-tapped.ensures.grows
-
-pub returns-in_err-push-clause-keeps : goal.returns-in_err-push-clause-keeps
-returns-in_err-push-clause-keeps c = keeps_trans c.loop-net.invariant.keeps c.in_ok-tapped.ensures.keeps
-
-pub returns-in_err-push-clause-grows : goal.returns-in_err-push-clause-grows
-returns-in_err-push-clause-grows c = grows_trans c.loop-net.invariant.grows c.in_ok-tapped.ensures.grows
-
-pub returns-in_err-tapped-clause-cells : goal.returns-in_err-tapped-clause-cells
-returns-in_err-tapped-clause-cells c =
-    let was = c.loop-net.invariant in
-    cells_within _ _ (c.loop-net.net-index + 1) (8 * c.args.slack + 4) c.nets-nets.result.now c.args.bundle.now c.nets-nets.ensures
-    (omega (arith, c.loop-net-test.true))
-    (omega (arith, was.cells, c.in_err-tapped.ensures.cells, line_one c.args.slack))
-
-pub returns-in_err-push-clause-cells : goal.returns-in_err-push-clause-cells
-returns-in_err-push-clause-cells c =
-    let was = c.loop-net.invariant in
-    cells_within _ _ (c.loop-net.net-index + 1) (8 * c.args.slack + 4) c.nets-nets.result.now c.args.bundle.now c.nets-nets.ensures
-    (omega (arith, c.loop-net-test.true))
-    (omega (arith, was.cells, c.in_ok-tapped.ensures.cells, line_one c.args.slack))
-
 pub returns-clause-cells : goal.returns-clause-cells
 returns-clause-cells c =
     cells_within _ _ c.loop-net.net-index (8 * c.args.slack + 4) c.nets-nets.result.now c.args.bundle.now c.nets-nets.ensures c.loop-net.auto.net-index-end
     c.loop-net.invariant.cells
-
-pub returns-in_err-tapped-clause-memories : goal.returns-in_err-tapped-clause-memories
-returns-in_err-tapped-clause-memories c =
-    let was = c.loop-net.invariant in
-    cells_within _ _ (c.loop-net.net-index + 1) (rings c.args.slack) c.nets-nets.result.now c.args.bundle.now c.nets-nets.ensures
-    (omega (arith, c.loop-net-test.true))
-    (omega (arith, was.memories, c.in_err-tapped.ensures.memories, rings_one c.args.slack))
-
-pub returns-in_err-push-clause-memories : goal.returns-in_err-push-clause-memories
-returns-in_err-push-clause-memories c =
-    let was = c.loop-net.invariant in
-    cells_within _ _ (c.loop-net.net-index + 1) (rings c.args.slack) c.nets-nets.result.now c.args.bundle.now c.nets-nets.ensures
-    (omega (arith, c.loop-net-test.true))
-    (omega (arith, was.memories, c.in_ok-tapped.ensures.memories, rings_one c.args.slack))
 
 pub returns-clause-memories : goal.returns-clause-memories
 returns-clause-memories c =
@@ -117,3 +66,11 @@ returns-clause-nets c =
 pub returns-clause-late : goal.returns-clause-late
 returns-clause-late c =
     late_of _ _ _ _ _ _ (tapped_all _ _ _ _ _ _ _ _ _ c.nets-nets.ensures c.new.ensures (omega arith) c.loop-net.invariant.taps)
+
+pub ring_line-requires-clause-room : goal.ring_line-requires-clause-room
+ring_line-requires-clause-room c =
+    let was = c.loop-net.invariant in
+    let part = cells_within (length c.args.nl.now.cells) (length c.loop-net.nl.cells + line_cells (c.args.slack ∷ [])) (c.loop-net.net-index + 1)
+    (8 * c.args.slack + 4)
+    c.nets-nets.result.now c.args.bundle.now c.nets-nets.ensures (omega (arith, c.loop-net-test.true)) (omega (arith, was.cells, line_one c.args.slack)) in
+    omega (arith, c.requires.room, was.grows.limit, part)

@@ -1,6 +1,6 @@
 use Rattle.std.proofs.Common.{◌≡◌, ◌+◌, ◌*◌, ◌≤◌, length}
 use Rattle.ae_netlist.specs.Counts.{AreWhole, count_of, is_memory, is_mul}
-use Rattle.ae_clocked.specs.Signals.{Grows}
+use Rattle.ae_gates.specs.Cells.{Grows}
 use Rattle.ae_clocked.specs.Rings.{rings}
 use Rattle.ae_clocked.specs.Phases.{Belongs, KeepsCounters}
 use Rattle.ae_ops.proofs.Lateness.{AreTapping}

@@ -3,16 +3,13 @@ use Rattle.std.proofs.Common.{arith, refl, sym}
 use Rattle.std.proofs.lemmas.Bool.{eqb-true}
 use Rattle.ae_word.specs.declared.op.WordOp.TheVariants.{Add, Mul}
 use Rattle.ae_netlist.specs.Circuit.{IsNet}
-use Rattle.ae_clocked.proofs.Adding.{adds_most}
-use Rattle.ae_ops.proofs.Computing.{pair_operands, refused_with}
+use Rattle.ae_gates.proofs.Adding.{adds_most}
+use Rattle.ae_ops.proofs.Computing.{pair_operands}
 use Rattle.ae_ops.proofs.Squares.{at_once, square_words, sum_words}
 use Rattle.ae_ops.proofs.make.make.Goals as goal
 
-pub square-requires : goal.square-requires
-square-requires c = (pair_operands Mul (IsNet c.args.nl.now.cells) c.args.args c.args.width refl (rw c.in-Mul.is at c.requires.operands)).0
-
-pub returns-in_err-net-in-Mul-clause-err : goal.returns-in_err-net-in-Mul-clause-err
-returns-in_err-net-in-Mul-clause-err c = refused_with _ c.in_err-net-in-Mul.ensures.err
+pub square-requires-clause-net : goal.square-requires-clause-net
+square-requires-clause-net c = (pair_operands Mul (IsNet c.args.nl.now.cells) c.args.args c.args.width refl (rw c.in-Mul.is at c.requires.operands)).0
 
 pub returns-in_ok-net-in-Mul-clause-adds : goal.returns-in_ok-net-in-Mul-clause-adds
 returns-in_ok-net-in-Mul-clause-adds c = rw c.in-Mul.is c.in_ok-net-in-Mul.ensures.adds
@@ -33,9 +30,6 @@ sum_of-requires-clause-left c = (pair_operands Add (IsNet c.args.nl.now.cells) c
 pub sum_of-requires-clause-right : goal.sum_of-requires-clause-right
 sum_of-requires-clause-right c = (pair_operands Add (IsNet c.args.nl.now.cells) c.args.args c.args.width refl (rw c.in-Add.is at c.requires.operands)).1
 
-pub returns-in_err-net-in-Add-clause-err : goal.returns-in_err-net-in-Add-clause-err
-returns-in_err-net-in-Add-clause-err c = refused_with _ (adds_most 9 (omega arith) c.in_err-net-in-Add.ensures.adds)
-
 pub returns-in_ok-net-in-Add-clause-adds : goal.returns-in_ok-net-in-Add-clause-adds
 returns-in_ok-net-in-Add-clause-adds c = rw c.in-Add.is (adds_most 9 (omega arith) c.in_ok-net-in-Add.ensures.adds)
 
@@ -44,9 +38,6 @@ returns-in_ok-net-in-Add-clause-net c = rw c.in-Add.is c.in_ok-net-in-Add.ensure
 
 pub returns-in_ok-net-in-Add-clause-words : goal.returns-in_ok-net-in-Add-clause-words
 returns-in_ok-net-in-Add-clause-words c = rw c.in-Add.is (sum_words _ _ c.args.width c.args.args _ _ refl refl c.in_ok-net-in-Add.ensures.words)
-
-pub returns-in_err-net-in-Sub-clause-err : goal.returns-in_err-net-in-Sub-clause-err
-returns-in_err-net-in-Sub-clause-err c = refused_with _ (adds_most 9 (omega arith) c.in_err-net-in-Sub.ensures.err)
 
 pub returns-in_ok-net-in-Sub-clause-adds : goal.returns-in_ok-net-in-Sub-clause-adds
 returns-in_ok-net-in-Sub-clause-adds c = adds_most 9 (omega arith) c.in_ok-net-in-Sub.ensures.adds

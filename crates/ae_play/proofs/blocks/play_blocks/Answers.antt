@@ -9,13 +9,13 @@ pub begun-requires-clause-row : goal.begun-requires-clause-row
 begun-requires-clause-row g c =
     let b = c.args.blocks.now in
     let ins = map st_tree b.ins.now in
-    reset_fits (AreInputs c.args.nl.now.cells) b.slowdown b.fill ins (blocks_of ins b.count b.words.now) c.requires.rows
+    reset_fits (AreInputs c.args.nl.now.cells) b.slowdown b.fill ins (blocks_of ins b.count b.words.now) c.requires.takes.rows
 
 pub play-requires-clause-rows : goal.play-requires-clause-rows
 play-requires-clause-rows g c = λ k h.
     let b = c.args.blocks.now in
     let ins = map st_tree b.ins.now in
-    row_here c.args.nl.now b.slowdown b.fill ins (blocks_of ins b.count b.words.now) c.in_ok-sim.sim k c.in_ok-sim.ensures.cells c.requires.rows
+    row_here c.args.nl.now b.slowdown b.fill ins (blocks_of ins b.count b.words.now) c.in_ok-sim.sim k c.in_ok-sim.ensures.cells c.requires.takes.rows
 
 pub returns : goal.returns
 returns g c =
@@ -24,4 +24,4 @@ returns g c =
     kept_of_run c.args.nl.now b.slowdown b.fill ins (blocks_of ins b.count b.words.now) c.args.clocks
     (g.M.Monitor.takes c.args.monitor.now) c.args.kept.now c.play.new.kept c.in_ok-sim.sim
     c.in_ok-sim.ensures.cells c.in_ok-sim.ensures.outlets c.in_ok-sim.ensures.plays c.in_ok-play.ensures c.has_one_run_with.ensures c.fill_begins.ensures
-    c.requires.rows
+    c.requires.takes.rows

@@ -8,9 +8,10 @@ use Rattle.ae_play.proofs.clocks.write_clocks.Goals as goal
 
 pub returns : goal.returns
 returns c =
-    let ins = map st_tree c.args.ins.now in
+    let b = c.args.fed.now in
+    let ins = map st_tree b.ins.now in
     on_ok c.play_blocks.result _ _
-    (text_played string_bytes c.args.nl.now c.args.slowdown c.args.latency c.args.fill ins (map st_tree c.args.outs.now)
-    (blocks_of ins c.args.blocks c.args.words.now) c.args.blocks c.clock_count-clocks.result c.args.out.now c.play_blocks.new.kept
-    (block_count ins c.args.blocks c.args.words.now) c.clock_count-clocks.ensures)
+    (text_played string_bytes c.args.nl.now b.slowdown c.args.latency b.fill ins (map st_tree c.args.outs.now)
+    (blocks_of ins b.count b.words.now) b.count c.clock_count-clocks.result c.args.out.now c.play_blocks.new.kept
+    (block_count ins b.count b.words.now) c.clock_count-clocks.ensures)
     c.play_blocks.ensures

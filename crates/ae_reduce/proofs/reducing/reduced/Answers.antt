@@ -1,57 +1,39 @@
 -- The mark, the tree and the loops, one after another.
-use Rattle.std.proofs.Common.{◌≡◌, ◌+◌, ◌-◌, ◌*◌, length, refl, arith, ℕ, ap, ◌∙◌, Option}
-use Rattle.ae_clocked.proofs.Adding.{grows_trans, adds_trans}
+use Rattle.std.proofs.Common.{◌≤◌, ◌≡◌, ◌+◌, ◌-◌, ◌*◌, length, refl, arith, ap, ◌∙◌, Option}
+use Rattle.ae_gates.proofs.Adding.{grows_trans}
 use Rattle.ae_clocked.proofs.Belonging.{belongs_grows}
-use Rattle.ae_fold.proofs.Feeding.{adds_up, up_trans}
-use Rattle.ae_fold.proofs.Storing.{stores_up}
 use Rattle.ae_fold.proofs.Looping.{overs_grow, nets_grow}
 use Rattle.ae_fold.proofs.Marking.{marks_grow, marks_net, marks_place, marks_turn, marks_wait}
 use Rattle.ae_fold.proofs.Ending.{ends_long, ends_scan}
 use Rattle.ae_reduce.proofs.Counting.{reduce_adds}
 use Rattle.std.proofs.Math.Nat.{mod-eq_of_lt}
-use Rattle.ae_netlist.specs.Circuit.{Circuit}
-use Rattle.ae_clocked.specs.Signals.{Adds}
 use Rattle.ae_fold.specs.declared.plan.Plan.{Plan}
 use Rattle.ae_fold.specs.declared.marks.SlotMark.{SlotMark}
-use Rattle.ae_fold.specs.Folding.{AddsUpTo}
 use Rattle.ae_fold.specs.Rows.{marks_in, wait_of}
 use Rattle.ae_reduce.specs.Reduces.{reduce_cells}
 use Rattle.ae_reduce.proofs.reducing.reduced.Goals as goal
 
--- where it stopped: behind the mark, in the tree, in the loops
-up_mark : (a b : Circuit) (plan : Plan) → Adds a b (wait_of plan.slots * 33) 0 → AddsUpTo a b (reduce_cells plan)
-up_mark a b plan h = adds_up (reduce_cells plan) (omega arith) h
-
-up_tree : (a b c : Circuit) (plan : Plan) → Adds a b (wait_of plan.slots * 33) 0 → AddsUpTo b c (9 * (plan.lanes * plan.stride) + plan.levels * plan.stride)
-    → AddsUpTo a c (reduce_cells plan)
-up_tree a b c plan x y = up_trans (reduce_cells plan) (omega arith) x y
-
-up_ends : (a b c d : Circuit) (plan : Plan) (mark : Option SlotMark) (p : ℕ) → marks_in mark ≡ wait_of plan.slots → Adds a b (wait_of plan.slots * 33) 0
-    → Adds b c (9 * (plan.lanes * plan.stride) + plan.levels * plan.stride) p
-    → AddsUpTo c d (marks_in mark * (plan.stride * (plan.inner + 9) + 0 * 10)) → AddsUpTo a d (reduce_cells plan)
-up_ends a b c d plan mark p w x y z =
+-- the loops have room behind the mark and the tree
+loops_room : (plan : Plan) (mark : Option SlotMark) → marks_in mark ≡ wait_of plan.slots
+    → wait_of plan.slots * 33 + (9 * (plan.lanes * plan.stride) + plan.levels * plan.stride) + marks_in mark * (plan.stride * (plan.inner + 9) + 0 * 10)
+    ≤ reduce_cells plan
+loops_room plan mark w =
     let s : plan.stride * (plan.inner + 9) + 0 * 10 ≡ plan.stride * (plan.inner + 9) = omega arith in
     let cells : marks_in mark * (plan.stride * (plan.inner + 9) + 0 * 10) ≡ wait_of plan.slots * (plan.stride * (plan.inner + 9)) =
     ap (λ k. marks_in mark * k) s ∙ ap (λ k. k * (plan.stride * (plan.inner + 9))) w in
-    up_trans (reduce_cells plan) (omega arith) (adds_trans x y) z
-
-pub returns-in_err-sums-clause-belongs : goal.returns-in_err-sums-clause-belongs
-returns-in_err-sums-clause-belongs c = belongs_grows _ _ _ c.in_err-sums.ensures.up.grows c.in_ok-found.ensures.belongs
+    omega arith
 
 pub over_slots-requires-clause-mark : goal.over_slots-requires-clause-mark
 over_slots-requires-clause-mark c =
-    marks_net _ _ _ _ _ _ c.in_ok-found.found (marks_grow _ _ _ _ _ _ _ c.in_ok-found.found c.in_ok-sums.ensures.up.grows.extends c.in_ok-found.ensures.marks)
+    marks_net _ _ _ _ _ _ c.in_ok-found.found (marks_grow _ _ _ _ _ _ _ c.in_ok-found.found c.in_ok-sums.ensures.adds.grows.extends c.in_ok-found.ensures.marks)
 
 pub over_slots-requires-clause-place : goal.over_slots-requires-clause-place
 over_slots-requires-clause-place c =
-    marks_place _ _ _ _ _ _ c.in_ok-found.found (marks_grow _ _ _ _ _ _ _ c.in_ok-found.found c.in_ok-sums.ensures.up.grows.extends c.in_ok-found.ensures.marks)
-
-pub returns-in_err-outs-clause-belongs : goal.returns-in_err-outs-clause-belongs
-returns-in_err-outs-clause-belongs c =
-    belongs_grows _ _ _ (grows_trans c.in_ok-sums.ensures.up.grows c.in_err-outs.ensures.up.grows) c.in_ok-found.ensures.belongs
+    marks_place _ _ _ _ _ _ c.in_ok-found.found (marks_grow _ _ _ _ _ _ _ c.in_ok-found.found c.in_ok-sums.ensures.adds.grows.extends
+    c.in_ok-found.ensures.marks)
 
 pub returns-clause-belongs : goal.returns-clause-belongs
-returns-clause-belongs c = belongs_grows _ _ _ (grows_trans c.in_ok-sums.ensures.up.grows c.in_ok-outs.ensures.up.grows) c.in_ok-found.ensures.belongs
+returns-clause-belongs c = belongs_grows _ _ _ (grows_trans c.in_ok-sums.ensures.adds.grows c.in_ok-outs.ensures.adds.grows) c.in_ok-found.ensures.belongs
 
 pub returns-clause-adds : goal.returns-clause-adds
 returns-clause-adds c =
@@ -59,16 +41,9 @@ returns-clause-adds c =
     (marks_wait _ _ _ _ _ _ c.in_ok-found.found c.in_ok-found.ensures.marks) c.in_ok-sums.ensures.long c.in_ok-found.ensures.adds c.in_ok-sums.ensures.adds
     c.in_ok-outs.ensures.adds
 
-pub returns-clause-up : goal.returns-clause-up
-returns-clause-up c =
-    stores_up _ (omega arith)
-    (reduce_adds _ _ _ _ c.args.plan c.in_ok-found.found _ _
-    (marks_wait _ _ _ _ _ _ c.in_ok-found.found c.in_ok-found.ensures.marks) c.in_ok-sums.ensures.long c.in_ok-found.ensures.adds c.in_ok-sums.ensures.adds
-    c.in_ok-outs.ensures.adds)
-
 pub returns-clause-long : goal.returns-clause-long
 returns-clause-long c =
-    let turned = marks_grow _ _ _ _ _ _ _ c.in_ok-found.found c.in_ok-sums.ensures.up.grows.extends c.in_ok-found.ensures.marks in
+    let turned = marks_grow _ _ _ _ _ _ _ c.in_ok-found.found c.in_ok-sums.ensures.adds.grows.extends c.in_ok-found.ensures.marks in
     let e : length c.in_ok-outs.outs.items ≡ 0 + c.args.plan.stride = ends_long _ c.args.clocks.now.rst _ c.in_ok-sums.sums.items 0 c.args.plan.stride _
     c.in_ok-found.found
     c.in_ok-outs.outs.items (omega (arith, c.in_ok-sums.ensures.long)) (c.in_ok-outs.ensures.ends _ (marks_turn _ _ _ _ _ _ c.in_ok-found.found turned)) in
@@ -76,12 +51,12 @@ returns-clause-long c =
 
 pub returns-clause-scans : goal.returns-clause-scans
 returns-clause-scans c =
-    let turned = marks_grow _ _ _ _ _ _ _ c.in_ok-found.found c.in_ok-sums.ensures.up.grows.extends c.in_ok-found.ensures.marks in
-    let later = grows_trans c.in_ok-sums.ensures.up.grows c.in_ok-outs.ensures.up.grows in
+    let turned = marks_grow _ _ _ _ _ _ _ c.in_ok-found.found c.in_ok-sums.ensures.adds.grows.extends c.in_ok-found.ensures.marks in
+    let later = grows_trans c.in_ok-sums.ensures.adds.grows c.in_ok-outs.ensures.adds.grows in
     ends_scan _ _ c.args.folds.now c.args.ins.now c.args.plan c.args.arrival ((c.args.plan.lanes - 1) * c.args.plan.stride) 0
     (c.args.plan.lanes - 1) 0 c.in_ok-sums.sums.items c.in_ok-found.found c.in_ok-outs.outs.items c.requires.plan c.requires.folds c.requires.whole
     refl (omega arith) (omega (arith, c.requires.plan.wide)) (omega (arith, c.in_ok-sums.ensures.long))
-    (overs_grow c.in_ok-outs.ensures.up.grows.extends (rw c.in_ok-nets.ensures.ok at c.in_ok-sums.ensures.words))
+    (overs_grow c.in_ok-outs.ensures.adds.grows.extends (rw c.in_ok-nets.ensures.ok at c.in_ok-sums.ensures.words))
     (marks_grow _ _ _ _ _ _ _ c.in_ok-found.found later.extends c.in_ok-found.ensures.marks)
     (c.in_ok-outs.ensures.ends _ (marks_turn _ _ _ _ _ _ c.in_ok-found.found turned))
 
@@ -90,30 +65,6 @@ mark-requires-clause-plan c = c.requires.plan
 
 pub mark-requires-clause-belongs : goal.mark-requires-clause-belongs
 mark-requires-clause-belongs c = c.requires.belongs
-
-pub returns-in_err-found-clause-belongs : goal.returns-in_err-found-clause-belongs
-returns-in_err-found-clause-belongs c = c.in_err-found.ensures.belongs
-
-pub returns-in_err-found-clause-keeps : goal.returns-in_err-found-clause-keeps
-returns-in_err-found-clause-keeps c = c.in_err-found.ensures.keeps
-
-pub returns-in_err-found-clause-up : goal.returns-in_err-found-clause-up
-returns-in_err-found-clause-up c = up_mark _ _ c.args.plan c.in_err-found.ensures.adds
-
-pub returns-in_err-nets-clause-belongs : goal.returns-in_err-nets-clause-belongs
-returns-in_err-nets-clause-belongs c = c.in_ok-found.ensures.belongs
-
-pub returns-in_err-nets-clause-keeps : goal.returns-in_err-nets-clause-keeps
-returns-in_err-nets-clause-keeps c = c.in_ok-found.ensures.keeps
-
-pub returns-in_err-nets-clause-up : goal.returns-in_err-nets-clause-up
-returns-in_err-nets-clause-up c = up_mark _ _ c.args.plan c.in_ok-found.ensures.adds
-
-pub returns-in_err-sums-clause-keeps : goal.returns-in_err-sums-clause-keeps
-returns-in_err-sums-clause-keeps c = c.in_ok-found.ensures.keeps
-
-pub returns-in_err-outs-clause-keeps : goal.returns-in_err-outs-clause-keeps
-returns-in_err-outs-clause-keeps c = c.in_ok-found.ensures.keeps
 
 pub returns-clause-keeps : goal.returns-clause-keeps
 returns-clause-keeps c = c.in_ok-found.ensures.keeps
@@ -166,10 +117,21 @@ over_slots-requires-clause-last c = omega (arith, c.in_ok-sums.ensures.long)
 pub over_slots-requires-clause-lanes : goal.over_slots-requires-clause-lanes
 over_slots-requires-clause-lanes c = mod-eq_of_lt (omega (arith, c.requires.plan.placed))
 
-pub returns-in_err-sums-clause-up : goal.returns-in_err-sums-clause-up
-returns-in_err-sums-clause-up c = up_tree _ _ _ c.args.plan c.in_ok-found.ensures.adds c.in_err-sums.ensures.up
+pub mark-requires-clause-room : goal.mark-requires-clause-room
+mark-requires-clause-room c = omega (arith, c.requires.room)
 
-pub returns-in_err-outs-clause-up : goal.returns-in_err-outs-clause-up
-returns-in_err-outs-clause-up c =
-    up_ends _ _ _ _ c.args.plan c.in_ok-found.found _ (marks_wait _ _ _ _ _ _ c.in_ok-found.found c.in_ok-found.ensures.marks) c.in_ok-found.ensures.adds
-    c.in_ok-sums.ensures.adds c.in_err-outs.ensures.up
+pub tree-requires-clause-room : goal.tree-requires-clause-room
+tree-requires-clause-room c = omega (arith, c.requires.room, c.in_ok-found.ensures.adds.cells, c.in_ok-found.ensures.adds.grows.limit)
+
+pub over_slots-requires-clause-room : goal.over_slots-requires-clause-room
+over_slots-requires-clause-room c =
+    let part = loops_room c.args.plan c.in_ok-found.found (marks_wait _ _ _ _ _ _ c.in_ok-found.found c.in_ok-found.ensures.marks) in
+    omega (
+      arith,
+      c.requires.room,
+      part,
+      c.in_ok-found.ensures.adds.cells,
+      c.in_ok-found.ensures.adds.grows.limit,
+      c.in_ok-sums.ensures.adds.cells,
+      c.in_ok-sums.ensures.adds.grows.limit,
+    )

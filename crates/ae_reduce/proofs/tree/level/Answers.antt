@@ -1,14 +1,14 @@
 -- One pair more.
 use Rattle.std.proofs.Common.{◌≡◌, ◌+◌, ◌*◌, ◌/◌, ◌++◌, ◌∷◌, [], min, length, ap, ◌∙◌, arith, ℕ, ◌≤◌, refl, sym}
 use Rattle.std.proofs.lemmas.List.{length_push}
-use Rattle.ae_fold.proofs.Feeding.{adds_up, adds_is}
+use Rattle.ae_fold.proofs.Feeding.{adds_is}
 use Rattle.ae_fold.proofs.Looping.{fold_product, nets_grow, fold_low, fold_high, fold_op}
-use Rattle.ae_reduce.proofs.Treeing.{adds_pair, halves, left_below, left_net, pairs_more, least, right_net, up_pair, pairs_none}
+use Rattle.ae_reduce.proofs.Treeing.{adds_pair, halves, left_below, left_net, pairs_more, least, right_net, pairs_none, pair_room}
 use Rattle.std.proofs.Math.Nat.{mul-le-mul_right}
 use Rattle.std.proofs.lemmas.Nat.{div-add-mod'}
 use Rattle.ae_netlist.specs.Circuit.{Circuit}
-use Rattle.ae_clocked.specs.Signals.{Adds}
-use Rattle.ae_clocked.proofs.Adding.{adds_same}
+use Rattle.ae_gates.specs.Cells.{Adds}
+use Rattle.ae_gates.proofs.Adding.{adds_same}
 use Rattle.ae_fold.specs.Folding.{products_in}
 use Rattle.ae_reduce.proofs.tree.level.Goals as goal
 
@@ -37,14 +37,6 @@ pair-requires-clause-second c = λ l.
     right_net _ c.args.folds.now c.args.nets.now c.args.stride c.loop-q.q c.requires.folds
     (nets_grow c.loop-q.invariant.adds.grows.extends c.requires.nets) c.requires.whole l
 
-pub returns-in_err-net-clause-up : goal.returns-in_err-net-clause-up
-returns-in_err-net-clause-up c =
-    up_pair c.args.lanes c.args.stride c.loop-q.q _ c.requires.placed c.loop-q-test.true c.loop-q.invariant.adds c.in_err-net.ensures.up
-
-pub returns-in_err-push-clause-up : goal.returns-in_err-push-clause-up
-returns-in_err-push-clause-up c =
-    up_pair c.args.lanes c.args.stride c.loop-q.q _ c.requires.placed c.loop-q-test.true c.loop-q.invariant.adds c.in_ok-net.ensures.up
-
 pub loop-q-preserved : goal.loop-q-preserved
 loop-q-preserved c =
     let old = c.loop-q.invariant in
@@ -64,11 +56,6 @@ returns-clause-adds c =
     let e : c.loop-q.q ≡ (c.args.lanes + 1) / 2 * c.args.stride = omega arith in
     let m : min c.loop-q.q (c.args.lanes / 2 * c.args.stride) ≡ c.args.lanes / 2 * c.args.stride = least c.args.lanes c.args.stride c.loop-q.q e in
     rw (← e) (rw m at c.loop-q.invariant.adds)
-
-pub returns-clause-up : goal.returns-clause-up
-returns-clause-up c =
-    let h = halves c.args.lanes c.args.stride in
-    adds_up _ (omega arith) c.loop-q.invariant.adds
 
 pub loop-q-init : goal.loop-q-init
 loop-q-init c =
@@ -127,3 +114,8 @@ returns-clause-long c = omega (arith, c.loop-q.invariant.long)
 
 pub returns-clause-pairs : goal.returns-clause-pairs
 returns-clause-pairs c = c.loop-q.invariant.pairs
+
+pub pair-requires-clause-room : goal.pair-requires-clause-room
+pair-requires-clause-room c =
+    let part = pair_room c.args.lanes c.args.stride c.loop-q.q (length c.args.nets.now) c.requires.placed c.requires.long c.loop-q-test.true in
+    omega (arith, c.requires.room, c.loop-q.invariant.adds.cells, c.loop-q.invariant.adds.grows.limit, part)

@@ -1,9 +1,9 @@
-use Rattle.std.proofs.Common.{refl, ℕ, ◌≡◌, ◌+◌, ◌*◌, ◌<◌, ◌≤◌, nat_lt, true, false, rules, arith}
+use Rattle.std.proofs.Common.{length, refl, ℕ, ◌≡◌, ◌+◌, ◌*◌, ◌<◌, ◌≤◌, nat_lt, true, false, rules, arith}
 use Rattle.ae_reduce.proofs.Treeing.{pair_both, pair_one}
 use Rattle.ae_word.specs.WordTable.{bit}
 use Rattle.ae_netlist.specs.Circuit.{Circuit}
-use Rattle.ae_clocked.specs.Signals.{Adds}
-use Rattle.ae_fold.proofs.Feeding.{adds_is, adds_up}
+use Rattle.ae_gates.specs.Cells.{Adds}
+use Rattle.ae_fold.proofs.Feeding.{adds_is}
 use Rattle.ae_reduce.proofs.tree.pair.Goals as goal
 
 adds_alone : {a b : Circuit} (right total own : ℕ) → total ≤ right → Adds a b 1 0 → Adds a b (1 + 8 * bit (nat_lt right total)) (bit (nat_lt right total) * own)
@@ -22,20 +22,14 @@ returns-in_ok-later-clause-pair c =
     pair_one _ _ c.args.fold c.args.nets.now c.args.left c.args.right _ c.in_ok-later.later c.if-right-nets.false refl c.in_ok-later.ensures.net
     c.in_ok-later.ensures.words
 
-pub returns-in_err-later-clause-up : goal.returns-in_err-later-clause-up
-returns-in_err-later-clause-up c = adds_up 9 (omega arith) c.in_err-later.ensures.adds
-
-pub returns-in_ok-later-clause-up : goal.returns-in_ok-later-clause-up
-returns-in_ok-later-clause-up c = adds_up 9 (omega arith) c.in_ok-later.ensures.adds
-
 pub returns-in_ok-later-clause-adds : goal.returns-in_ok-later-clause-adds
 returns-in_ok-later-clause-adds c = adds_alone c.args.right _ _ c.if-right-nets.false c.in_ok-later.ensures.adds
 
-pub returns-in_err-both-clause-up : goal.returns-in_err-both-clause-up
-returns-in_err-both-clause-up c = c.in_err-both.ensures.up
-
-pub returns-in_ok-both-clause-up : goal.returns-in_ok-both-clause-up
-returns-in_ok-both-clause-up c = c.in_ok-both.ensures.up
-
 pub returns-in_ok-both-clause-adds : goal.returns-in_ok-both-clause-adds
 returns-in_ok-both-clause-adds c = adds_two c.args.right _ _ c.if-right-nets.true c.in_ok-both.ensures.adds
+
+pub joined-requires-clause-room : goal.joined-requires-clause-room
+joined-requires-clause-room c =
+    let two : nat_lt c.args.right (length c.args.nets.now) ≡ true = search rules in
+    let room = rw two at c.requires.room in
+    omega (arith, room)

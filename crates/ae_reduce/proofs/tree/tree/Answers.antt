@@ -1,9 +1,9 @@
 -- One level more.
 use Rattle.std.proofs.Common.{◌≡◌, ◌-◌, ◌*◌, ◌^◌, ◌≤◌, length, refl, arith}
-use Rattle.ae_fold.proofs.Feeding.{adds_is, adds_up}
+use Rattle.ae_fold.proofs.Feeding.{adds_is}
 use Rattle.ae_fold.proofs.Blocks.{turns_of}
 use Rattle.ae_reduce.specs.Trees.{ArePairs}
-use Rattle.ae_reduce.proofs.Treeing.{adds_level, alike_end, alike_more, halved, halves, pairs_nets, up_level}
+use Rattle.ae_reduce.proofs.Treeing.{adds_level, alike_end, alike_more, halved, halves, pairs_nets, level_room}
 use Rattle.ae_reduce.proofs.tree.tree.Goals as goal
 
 pub level-requires-clause-nets : goal.level-requires-clause-nets
@@ -11,11 +11,6 @@ level-requires-clause-nets c = rw c.deref.ensures.value c.loop-i.invariant.nets
 
 pub level-requires-clause-long : goal.level-requires-clause-long
 level-requires-clause-long c = rw c.deref.ensures.value c.loop-i.invariant.long
-
-pub returns-in_err-last-clause-up : goal.returns-in_err-last-clause-up
-returns-in_err-last-clause-up c =
-    up_level c.args.lanes c.loop-i.count c.args.stride c.loop-i.i c.args.levels _ c.loop-i.invariant.less c.loop-i-test.true c.loop-i.invariant.adds
-    c.in_err-last.ensures.up
 
 pub loop-i-preserved : goal.loop-i-preserved
 loop-i-preserved c =
@@ -47,12 +42,6 @@ returns-clause-adds c =
     let made = rw (e, one, s) at c.loop-i.invariant.adds in
     adds_is (omega arith) refl made
 
-pub returns-clause-up : goal.returns-clause-up
-returns-clause-up c =
-    let e : c.loop-i.i ≡ c.args.levels = omega arith in
-    let made = rw e at c.loop-i.invariant.adds in
-    adds_up _ (omega arith) made
-
 pub returns-clause-long : goal.returns-clause-long
 returns-clause-long c =
     let zero_left : c.args.levels - c.loop-i.i ≡ 0 = omega arith in
@@ -71,3 +60,9 @@ returns-clause-words c =
     alike_end _ c.args.folds.now _ c.args.stride c.args.lanes c.args.nets.items c.loop-i.count c.args.levels
     ((c.args.lanes - 1) * c.args.stride) c.loop-i.last.items c.requires.folds.some (turns_of c.args.stride (length c.args.folds.now) c.requires.whole)
     one (omega arith) refl c.loop-i.invariant.nets (rw e at c.loop-i.invariant.alike)
+
+pub level-requires-clause-room : goal.level-requires-clause-room
+level-requires-clause-room c =
+    let old = c.loop-i.invariant in
+    let part = level_room c.args.lanes c.loop-i.count c.args.stride c.loop-i.i c.args.levels old.less c.loop-i-test.true in
+    omega (arith, c.requires.room, old.adds.cells, old.adds.grows.limit, part)

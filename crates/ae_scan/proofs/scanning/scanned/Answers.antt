@@ -1,61 +1,36 @@
 -- The mark, the sweep and the loops, one after another.
 use Rattle.std.proofs.Common.{◌-◌, ◌*◌, ◌∙◌, refl, arith, ℕ, ◌≤◌}
-use Rattle.ae_clocked.proofs.Adding.{grows_trans}
+use Rattle.ae_gates.proofs.Adding.{grows_trans}
 use Rattle.ae_clocked.proofs.Belonging.{belongs_grows}
-use Rattle.ae_fold.proofs.Feeding.{adds_up}
-use Rattle.ae_fold.proofs.Storing.{stores_up}
 use Rattle.ae_fold.proofs.Looping.{overs_grow, nets_grow}
 use Rattle.ae_fold.proofs.Marking.{marks_grow, marks_net, marks_place, marks_turn, marks_wait}
 use Rattle.ae_fold.proofs.Ending.{ends_long, ends_scan}
-use Rattle.ae_scan.proofs.Counting.{last_lane, last_lane_is, scan_adds, up_loops, up_sweep, whole_lanes}
+use Rattle.ae_scan.proofs.Counting.{last_lane, last_lane_is, scan_adds, whole_lanes, loops_room}
 use Rattle.std.proofs.Math.Nat.{mul-le-mul_right}
-use Rattle.ae_netlist.specs.Circuit.{Circuit}
-use Rattle.ae_clocked.specs.Signals.{Adds}
-use Rattle.ae_fold.specs.declared.plan.Plan.{Plan}
-use Rattle.ae_fold.specs.Folding.{AddsUpTo}
-use Rattle.ae_fold.specs.Rows.{wait_of}
-use Rattle.ae_scan.specs.Scans.{scan_cells}
 use Rattle.ae_scan.proofs.scanning.scanned.Goals as goal
-
--- the mark alone
-up_mark : (a b : Circuit) (plan : Plan) → Adds a b (wait_of plan.slots * 33) 0 → AddsUpTo a b (scan_cells plan)
-up_mark a b plan h = adds_up (scan_cells plan) (omega arith) h
 
 last_small : (lanes stride : ℕ) → lanes ≤ 4096 → stride ≤ 16384 → (lanes - 1) * stride ≤ 67108864
 last_small lanes stride few small =
     let up : (lanes - 1) * stride ≤ 4096 * stride = mul-le-mul_right stride (let n : lanes - 1 ≤ 4096 = omega arith in n) in
     omega arith
 
-pub returns-in_err-sums-clause-belongs : goal.returns-in_err-sums-clause-belongs
-returns-in_err-sums-clause-belongs c = belongs_grows _ _ _ c.in_err-sums.ensures.up.grows c.in_ok-found.ensures.belongs
-
 pub over_slots-requires-clause-mark : goal.over_slots-requires-clause-mark
 over_slots-requires-clause-mark c =
-    marks_net _ _ _ _ _ _ c.in_ok-found.found (marks_grow _ _ _ _ _ _ _ c.in_ok-found.found c.in_ok-sums.ensures.up.grows.extends c.in_ok-found.ensures.marks)
+    marks_net _ _ _ _ _ _ c.in_ok-found.found (marks_grow _ _ _ _ _ _ _ c.in_ok-found.found c.in_ok-sums.ensures.adds.grows.extends c.in_ok-found.ensures.marks)
 
 pub over_slots-requires-clause-place : goal.over_slots-requires-clause-place
 over_slots-requires-clause-place c =
-    marks_place _ _ _ _ _ _ c.in_ok-found.found (marks_grow _ _ _ _ _ _ _ c.in_ok-found.found c.in_ok-sums.ensures.up.grows.extends c.in_ok-found.ensures.marks)
-
-pub returns-in_err-outs-clause-belongs : goal.returns-in_err-outs-clause-belongs
-returns-in_err-outs-clause-belongs c =
-    belongs_grows _ _ _ (grows_trans c.in_ok-sums.ensures.up.grows c.in_err-outs.ensures.up.grows) c.in_ok-found.ensures.belongs
+    marks_place _ _ _ _ _ _ c.in_ok-found.found (marks_grow _ _ _ _ _ _ _ c.in_ok-found.found c.in_ok-sums.ensures.adds.grows.extends
+    c.in_ok-found.ensures.marks)
 
 pub returns-clause-belongs : goal.returns-clause-belongs
-returns-clause-belongs c = belongs_grows _ _ _ (grows_trans c.in_ok-sums.ensures.up.grows c.in_ok-outs.ensures.up.grows) c.in_ok-found.ensures.belongs
+returns-clause-belongs c = belongs_grows _ _ _ (grows_trans c.in_ok-sums.ensures.adds.grows c.in_ok-outs.ensures.adds.grows) c.in_ok-found.ensures.belongs
 
 pub returns-clause-adds : goal.returns-clause-adds
 returns-clause-adds c =
     scan_adds _ _ _ _ c.args.plan c.in_ok-found.found _ _ _
     (marks_wait _ _ _ _ _ _ c.in_ok-found.found c.in_ok-found.ensures.marks) c.in_ok-sums.ensures.long refl c.in_ok-found.ensures.adds
     c.in_ok-sums.ensures.adds c.in_ok-outs.ensures.adds
-
-pub returns-clause-up : goal.returns-clause-up
-returns-clause-up c =
-    stores_up _ (omega arith)
-    (scan_adds _ _ _ _ c.args.plan c.in_ok-found.found _ _ _
-    (marks_wait _ _ _ _ _ _ c.in_ok-found.found c.in_ok-found.ensures.marks) c.in_ok-sums.ensures.long refl c.in_ok-found.ensures.adds
-    c.in_ok-sums.ensures.adds c.in_ok-outs.ensures.adds)
 
 pub over_slots-requires-clause-last : goal.over_slots-requires-clause-last
 over_slots-requires-clause-last c = last_lane c.args.plan.lanes c.args.plan.stride _ c.requires.plan.wide c.in_ok-sums.ensures.long
@@ -65,7 +40,7 @@ over_slots-requires-clause-lanes c = whole_lanes (c.args.plan.lanes - 1) c.args.
 
 pub returns-clause-long : goal.returns-clause-long
 returns-clause-long c =
-    let turned = marks_grow _ _ _ _ _ _ _ c.in_ok-found.found c.in_ok-sums.ensures.up.grows.extends c.in_ok-found.ensures.marks in
+    let turned = marks_grow _ _ _ _ _ _ _ c.in_ok-found.found c.in_ok-sums.ensures.adds.grows.extends c.in_ok-found.ensures.marks in
     let last = last_lane c.args.plan.lanes c.args.plan.stride _ c.requires.plan.wide c.in_ok-sums.ensures.long in
     ends_long _ c.args.clocks.now.rst _ c.in_ok-sums.sums.items
     ((c.args.plan.lanes - 1) * c.args.plan.stride) c.args.plan.stride _ c.in_ok-found.found c.in_ok-outs.outs.items last
@@ -73,53 +48,21 @@ returns-clause-long c =
 
 pub returns-clause-scans : goal.returns-clause-scans
 returns-clause-scans c =
-    let turned = marks_grow _ _ _ _ _ _ _ c.in_ok-found.found c.in_ok-sums.ensures.up.grows.extends c.in_ok-found.ensures.marks in
-    let later = grows_trans c.in_ok-sums.ensures.up.grows c.in_ok-outs.ensures.up.grows in
+    let turned = marks_grow _ _ _ _ _ _ _ c.in_ok-found.found c.in_ok-sums.ensures.adds.grows.extends c.in_ok-found.ensures.marks in
+    let later = grows_trans c.in_ok-sums.ensures.adds.grows c.in_ok-outs.ensures.adds.grows in
     let last = last_lane c.args.plan.lanes c.args.plan.stride _ c.requires.plan.wide c.in_ok-sums.ensures.long in
     ends_scan _ _ c.args.folds.now c.args.ins.now c.args.plan c.args.arrival 0 ((c.args.plan.lanes - 1) * c.args.plan.stride) 0
     (c.args.plan.lanes - 1) c.in_ok-sums.sums.items c.in_ok-found.found c.in_ok-outs.outs.items c.requires.plan c.requires.folds c.requires.whole
     (omega arith) refl (omega (arith, c.requires.plan.wide)) last
-    (overs_grow c.in_ok-outs.ensures.up.grows.extends (rw c.in_ok-nets.ensures.ok at c.in_ok-sums.ensures.words))
+    (overs_grow c.in_ok-outs.ensures.adds.grows.extends (rw c.in_ok-nets.ensures.ok at c.in_ok-sums.ensures.words))
     (marks_grow _ _ _ _ _ _ _ c.in_ok-found.found later.extends c.in_ok-found.ensures.marks)
     (c.in_ok-outs.ensures.ends _ (marks_turn _ _ _ _ _ _ c.in_ok-found.found turned))
-
-pub returns-in_err-sums-clause-up : goal.returns-in_err-sums-clause-up
-returns-in_err-sums-clause-up c = up_sweep _ _ _ c.args.plan c.in_ok-found.ensures.adds c.in_err-sums.ensures.up
-
-pub returns-in_err-outs-clause-up : goal.returns-in_err-outs-clause-up
-returns-in_err-outs-clause-up c =
-    up_loops _ _ _ _ c.args.plan c.in_ok-found.found _ _ (marks_wait _ _ _ _ _ _ c.in_ok-found.found c.in_ok-found.ensures.marks) refl
-    c.in_ok-found.ensures.adds c.in_ok-sums.ensures.adds c.in_err-outs.ensures.up
 
 pub mark-requires-clause-plan : goal.mark-requires-clause-plan
 mark-requires-clause-plan c = c.requires.plan
 
 pub mark-requires-clause-belongs : goal.mark-requires-clause-belongs
 mark-requires-clause-belongs c = c.requires.belongs
-
-pub returns-in_err-found-clause-belongs : goal.returns-in_err-found-clause-belongs
-returns-in_err-found-clause-belongs c = c.in_err-found.ensures.belongs
-
-pub returns-in_err-found-clause-keeps : goal.returns-in_err-found-clause-keeps
-returns-in_err-found-clause-keeps c = c.in_err-found.ensures.keeps
-
-pub returns-in_err-found-clause-up : goal.returns-in_err-found-clause-up
-returns-in_err-found-clause-up c = up_mark _ _ c.args.plan c.in_err-found.ensures.adds
-
-pub returns-in_err-nets-clause-belongs : goal.returns-in_err-nets-clause-belongs
-returns-in_err-nets-clause-belongs c = c.in_ok-found.ensures.belongs
-
-pub returns-in_err-nets-clause-keeps : goal.returns-in_err-nets-clause-keeps
-returns-in_err-nets-clause-keeps c = c.in_ok-found.ensures.keeps
-
-pub returns-in_err-nets-clause-up : goal.returns-in_err-nets-clause-up
-returns-in_err-nets-clause-up c = up_mark _ _ c.args.plan c.in_ok-found.ensures.adds
-
-pub returns-in_err-sums-clause-keeps : goal.returns-in_err-sums-clause-keeps
-returns-in_err-sums-clause-keeps c = c.in_ok-found.ensures.keeps
-
-pub returns-in_err-outs-clause-keeps : goal.returns-in_err-outs-clause-keeps
-returns-in_err-outs-clause-keeps c = c.in_ok-found.ensures.keeps
 
 pub returns-clause-keeps : goal.returns-clause-keeps
 returns-clause-keeps c = c.in_ok-found.ensures.keeps
@@ -174,3 +117,23 @@ overflow_sub-last c = omega (arith, c.requires.plan.wide)
 
 pub overflow_mul-last : goal.overflow_mul-last
 overflow_mul-last c = omega (arith, last_small c.args.plan.lanes c.args.plan.stride c.requires.plan.few c.requires.plan.small)
+
+pub mark-requires-clause-room : goal.mark-requires-clause-room
+mark-requires-clause-room c = omega (arith, c.requires.room)
+
+pub sweep-requires-clause-room : goal.sweep-requires-clause-room
+sweep-requires-clause-room c = omega (arith, c.requires.room, c.in_ok-found.ensures.adds.cells, c.in_ok-found.ensures.adds.grows.limit)
+
+pub over_slots-requires-clause-room : goal.over_slots-requires-clause-room
+over_slots-requires-clause-room c =
+    let part = loops_room c.args.plan c.in_ok-found.found ((c.args.plan.lanes - 1) * c.args.plan.stride)
+    (marks_wait _ _ _ _ _ _ c.in_ok-found.found c.in_ok-found.ensures.marks) refl in
+    omega (
+      arith,
+      c.requires.room,
+      part,
+      c.in_ok-found.ensures.adds.cells,
+      c.in_ok-found.ensures.adds.grows.limit,
+      c.in_ok-sums.ensures.adds.cells,
+      c.in_ok-sums.ensures.adds.grows.limit,
+    )

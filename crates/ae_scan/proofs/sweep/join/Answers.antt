@@ -2,8 +2,8 @@ use Rattle.std.proofs.Common.{refl, ℕ, ◌≡◌, ◌*◌, ◌<◌, ◌≤◌,
 use Rattle.ae_scan.proofs.Sweeping.{join_both, join_one}
 use Rattle.ae_word.specs.WordTable.{bit}
 use Rattle.ae_netlist.specs.Circuit.{Circuit}
-use Rattle.ae_clocked.specs.Signals.{Adds}
-use Rattle.ae_fold.proofs.Feeding.{adds_is, adds_up}
+use Rattle.ae_gates.specs.Cells.{Adds}
+use Rattle.ae_fold.proofs.Feeding.{adds_is}
 use Rattle.ae_scan.proofs.sweep.join.Goals as goal
 
 adds_alone : {a b : Circuit} (q reach own : ℕ) → q < reach → Adds a b 1 0 → Adds a b 9 (bit (not (nat_lt q reach)) * own)
@@ -22,23 +22,11 @@ returns-in_ok-later-clause-join c =
     join_one _ _ c.args.fold c.args.nets.now c.args.q c.args.reach _ c.in_ok-later.later c.if-q-reach.true refl c.in_ok-later.ensures.net
     c.in_ok-later.ensures.words
 
-pub delayed-requires : goal.delayed-requires
-delayed-requires c = c.requires.own
-
-pub returns-in_err-later-clause-up : goal.returns-in_err-later-clause-up
-returns-in_err-later-clause-up c = adds_up 9 (omega arith) c.in_err-later.ensures.adds
-
-pub returns-in_ok-later-clause-up : goal.returns-in_ok-later-clause-up
-returns-in_ok-later-clause-up c = adds_up 9 (omega arith) c.in_ok-later.ensures.adds
+pub delayed-requires-clause-net : goal.delayed-requires-clause-net
+delayed-requires-clause-net c = c.requires.own
 
 pub returns-in_ok-later-clause-adds : goal.returns-in_ok-later-clause-adds
 returns-in_ok-later-clause-adds c = adds_alone c.args.q c.args.reach _ c.if-q-reach.true c.in_ok-later.ensures.adds
-
-pub returns-in_err-both-clause-up : goal.returns-in_err-both-clause-up
-returns-in_err-both-clause-up c = c.in_err-both.ensures.up
-
-pub returns-in_ok-both-clause-up : goal.returns-in_ok-both-clause-up
-returns-in_ok-both-clause-up c = c.in_ok-both.ensures.up
 
 pub returns-in_ok-both-clause-adds : goal.returns-in_ok-both-clause-adds
 returns-in_ok-both-clause-adds c = adds_two c.args.q c.args.reach _ c.if-q-reach.false c.in_ok-both.ensures.adds

@@ -1,12 +1,12 @@
 -- One net more.
 use Rattle.std.proofs.Common.{◌≡◌, ◌+◌, ◌++◌, ◌∷◌, [], length, ap, ◌∙◌, arith, ℕ, ◌-◌, ◌*◌, refl, sym}
 use Rattle.std.proofs.lemmas.List.{length_push}
-use Rattle.ae_fold.proofs.Feeding.{adds_up, adds_is}
-use Rattle.ae_fold.proofs.Looping.{fold_high, fold_low, fold_op, fold_product, nets_grow, up_once}
+use Rattle.ae_fold.proofs.Feeding.{adds_is}
+use Rattle.ae_fold.proofs.Looping.{fold_high, fold_low, fold_op, fold_product, nets_grow}
 use Rattle.ae_scan.proofs.Sweeping.{adds_join, before_net, joins_more, joins_none}
 use Rattle.ae_netlist.specs.Circuit.{Circuit}
-use Rattle.ae_clocked.specs.Signals.{Adds}
-use Rattle.ae_clocked.proofs.Adding.{adds_same}
+use Rattle.ae_gates.specs.Cells.{Adds}
+use Rattle.ae_gates.proofs.Adding.{adds_same}
 use Rattle.ae_fold.specs.Folding.{products_in}
 use Rattle.ae_scan.proofs.sweep.level.Goals as goal
 
@@ -33,12 +33,6 @@ join-requires-clause-before c = λ le.
     before_net _ c.args.folds.now c.args.nets.now c.args.reach c.loop-q.q c.requires.folds.some c.requires.whole
     (nets_grow c.loop-q.invariant.adds.grows.extends c.requires.nets) c.loop-q-test.true le
 
-pub returns-in_err-net-clause-up : goal.returns-in_err-net-clause-up
-returns-in_err-net-clause-up c = up_once c.loop-q.q _ _ _ c.loop-q-test.true c.loop-q.invariant.adds c.in_err-net.ensures.up
-
-pub returns-in_err-push-clause-up : goal.returns-in_err-push-clause-up
-returns-in_err-push-clause-up c = up_once c.loop-q.q _ _ _ c.loop-q-test.true c.loop-q.invariant.adds c.in_ok-net.ensures.up
-
 pub loop-q-preserved : goal.loop-q-preserved
 loop-q-preserved c =
     let old = c.loop-q.invariant in
@@ -55,11 +49,6 @@ pub returns-clause-adds : goal.returns-clause-adds
 returns-clause-adds c =
     let e : c.loop-q.q ≡ length c.args.nets.now = omega arith in
     rw (← e) c.loop-q.invariant.adds
-
-pub returns-clause-up : goal.returns-clause-up
-returns-clause-up c =
-    let e : c.loop-q.q ≡ length c.args.nets.now = omega arith in
-    rw (← e) (adds_up _ (omega arith) c.loop-q.invariant.adds)
 
 pub loop-q-init : goal.loop-q-init
 loop-q-init c =
@@ -80,3 +69,6 @@ returns-clause-long c = omega (arith, c.loop-q.invariant.long)
 
 pub returns-clause-joins : goal.returns-clause-joins
 returns-clause-joins c = c.loop-q.invariant.joins
+
+pub join-requires-clause-room : goal.join-requires-clause-room
+join-requires-clause-room c = omega (arith, c.requires.room, c.loop-q.invariant.adds.cells, c.loop-q.invariant.adds.grows.limit, c.loop-q-test.true)

@@ -1,10 +1,9 @@
 -- One level more.
 use Rattle.std.proofs.Common.{◌≡◌, ◌^◌, ◌<◌, length, ◌∙◌, arith}
-use Rattle.ae_fold.proofs.Feeding.{adds_up}
 use Rattle.ae_fold.proofs.Looping.{nets_grow}
 use Rattle.ae_fold.specs.Folding.{products_in}
 use Rattle.ae_scan.specs.Sweeps.{AreJoins}
-use Rattle.ae_scan.proofs.Sweeping.{adds_level, joins_nets, less_more, no_levels, reach_more, reach_small, reach_whole, up_level, windowed_end, windowed_more, windowed_none}
+use Rattle.ae_scan.proofs.Sweeping.{adds_level, joins_nets, less_more, no_levels, reach_more, reach_small, reach_whole, windowed_end, windowed_more, windowed_none, level_room}
 use Rattle.ae_scan.proofs.sweep.sweep.Goals as goal
 
 pub loop-i-init : goal.loop-i-init
@@ -23,11 +22,6 @@ level-requires-clause-nets c = rw c.deref.ensures.value c.loop-i.invariant.nets
 pub level-requires-clause-whole : goal.level-requires-clause-whole
 level-requires-clause-whole c =
     reach_whole c.args.folds.now c.args.stride c.loop-i.i c.loop-i.reach c.requires.folds.some c.requires.whole c.loop-i.invariant.reach
-
-pub returns-in_err-last-clause-up : goal.returns-in_err-last-clause-up
-returns-in_err-last-clause-up c =
-    up_level c.args.lanes c.args.stride c.loop-i.i c.args.levels _ _ c.loop-i.invariant.long c.loop-i-test.true c.loop-i.invariant.adds
-    (rw c.deref.ensures.value at c.in_err-last.ensures.up)
 
 pub overflow_mul-reach : goal.overflow_mul-reach
 overflow_mul-reach c =
@@ -50,7 +44,7 @@ loop-i-preserved c =
       nets = joins_nets _ _ _ _ _ joins;
       long = long ∙ old.long;
       windows = windowed_more _ _ c.args.folds.now c.args.stride c.args.lanes c.args.nets.items c.loop-i.i c.loop-i.reach c.loop-i.last.items
-          c.in_ok-last.last.items more.up.grows.extends c.requires.folds c.requires.whole
+          c.in_ok-last.last.items more.adds.grows.extends c.requires.folds c.requires.whole
           (nets_grow old.adds.grows.extends c.requires.nets) c.requires.long c.requires.some (long ∙ old.long) old.reach old.windows joins;
     }
 
@@ -59,14 +53,14 @@ returns-clause-adds c =
     let e : c.loop-i.i ≡ c.args.levels = omega arith in
     rw e at c.loop-i.invariant.adds
 
-pub returns-clause-up : goal.returns-clause-up
-returns-clause-up c =
-    let e : c.loop-i.i ≡ c.args.levels = omega arith in
-    let made = rw e at c.loop-i.invariant.adds in
-    adds_up _ (omega arith) made
-
 pub returns-clause-words : goal.returns-clause-words
 returns-clause-words c =
     let e : c.loop-i.i ≡ c.args.levels = omega arith in
     windowed_end _ c.args.folds.now c.args.stride c.args.lanes c.args.nets.items c.args.levels c.loop-i.last.items c.requires.folds.some c.requires.whole
     c.requires.placed c.requires.deep c.loop-i.invariant.long c.loop-i.invariant.nets (rw e at c.loop-i.invariant.windows)
+
+pub level-requires-clause-room : goal.level-requires-clause-room
+level-requires-clause-room c =
+    let old = c.loop-i.invariant in
+    let part = level_room c.args.lanes c.args.stride c.loop-i.i c.args.levels (length c.loop-i.last.items) old.long c.loop-i-test.true in
+    rw c.deref.ensures.value (omega (arith, c.requires.room, old.adds.cells, old.adds.grows.limit, part))

@@ -1,5 +1,5 @@
 use Rattle.std.proofs.Common.{◌≡◌, ◌+◌, ◌*◌, ◌^◌, ◌≤◌, length}
-use Rattle.ae_clocked.specs.Signals.{Adds}
+use Rattle.ae_gates.specs.Cells.{Adds}
 use Rattle.ae_fold.specs.Folding.{products_in}
 use Rattle.ae_fold.specs.Rows.{AreFoldNets}
 use Rattle.ae_scan.specs.Sweeps.{Windowed}

@@ -3,7 +3,7 @@ use Rattle.std.proofs.Common.{◌≡◌, true, ◌<◌, ap, arith, subst}
 use Rattle.ae_sttype.specs.StTree.{st_depth, st_tree, sseq, time, tseq}
 use Rattle.ae_sttype.proofs.Bounds.{part_of_sseq, part_of_tseq}
 use Rattle.ae_streamed.proofs.Bits.{atom_told, bit_later, constant_bit, in_sseq_gained, in_tseq_gained, times}
-use Rattle.ae_streamed.proofs.Counted.{gate_more, mark_more, one_cell, part_cells}
+use Rattle.ae_streamed.proofs.Counted.{gate_more, one_cell, part_cells}
 use Rattle.ae_streamed.proofs.layouts.+slot_beat.Goals as goal
 
 pub returns-in_ok-y-in-Atom-clause-gains : goal.returns-in_ok-y-in-Atom-clause-gains
@@ -18,13 +18,15 @@ slot_beat-requires t c =
     let size = part_of_tseq (st_tree c.args.layout.now) (st_tree c.deref-of.result.now) c.in-T.n c.in-T.i is c.requires.in_size in
     let at = times (st_tree c.args.layout.now) (st_tree c.deref-of.result.now) c.in-T.n c.in-T.i c.time-span.result c.args.offset is c.time-span.ensures
     c.requires.in_size c.requires.low in
-    (omega (arith, ap st_depth is), (c.requires.belongs, (size, at.rest)))
+    (omega (arith, ap st_depth is), (c.requires.belongs, (size, (at.rest, omega (arith, c.requires.room, ap st_depth is)))))
 
 pub slot_beat-requires-in-S : goal.slot_beat-requires-in-S
 slot_beat-requires-in-S t c =
     let is : st_tree c.args.layout.now ≡ sseq c.in-S.n (st_tree c.deref-of-in-S.result.now) = cc (ap st_tree c.in-S.is) in
-    let size = part_of_sseq (st_tree c.args.layout.now) (st_tree c.deref-of-in-S.result.now) c.in-S.n is c.requires.in_size in
-    (omega (arith, ap st_depth is), (c.requires.belongs, (size, subst (λ v. c.args.offset < time v) is c.requires.low)))
+    let size = part_of_sseq (st_tree c.args.layout.now) (st_tree c.deref-of-in-S.result.now) c.in-S.n is c.requires.in_size in (
+      omega (arith, ap st_depth is),
+      (c.requires.belongs, (size, (subst (λ v. c.args.offset < time v) is c.requires.low, omega (arith, c.requires.room, ap st_depth is)))),
+    )
 
 pub both-requires-clause-right : goal.both-requires-clause-right
 both-requires-clause-right t c = (bit_later c.in_ok-here-in-T.ensures.gains.grows c.in_ok-inner-in-T.ensures.gains.told).net
@@ -44,27 +46,8 @@ returns-in_ok-y-in-S-clause-gains t c =
     (st_tree c.args.layout.now) (st_tree c.deref-of-in-S.result.now) c.in-S.n (cc (ap st_tree c.in-S.is)) c.requires.in_size.lengths
     c.in_ok-y-in-S.ensures.gains
 
-pub returns-in_err-y-in-Atom-clause-adds : goal.returns-in_err-y-in-Atom-clause-adds
-returns-in_err-y-in-Atom-clause-adds t c = one_cell (st_tree c.args.layout.now) c.in_err-y-in-Atom.ensures.adds
-
 pub returns-in_ok-y-in-Atom-clause-adds : goal.returns-in_ok-y-in-Atom-clause-adds
 returns-in_ok-y-in-Atom-clause-adds t c = one_cell (st_tree c.args.layout.now) c.in_ok-y-in-Atom.ensures.adds
-
-pub returns-in_err-inner-in-T-clause-adds : goal.returns-in_err-inner-in-T-clause-adds
-returns-in_err-inner-in-T-clause-adds t c =
-    let is : st_tree c.args.layout.now ≡ tseq c.in-T.n c.in-T.i (st_tree c.deref-of.result.now) = cc (ap st_tree c.in-T.is) in
-    part_cells (st_tree c.args.layout.now) (st_tree c.deref-of.result.now) (ap st_depth is) c.in_err-inner-in-T.ensures.adds
-
-pub returns-in_err-here-in-T-clause-adds : goal.returns-in_err-here-in-T-clause-adds
-returns-in_err-here-in-T-clause-adds t c =
-    let is : st_tree c.args.layout.now ≡ tseq c.in-T.n c.in-T.i (st_tree c.deref-of.result.now) = cc (ap st_tree c.in-T.is) in
-    mark_more (st_tree c.args.layout.now) (st_tree c.deref-of.result.now) (ap st_depth is) c.in_ok-inner-in-T.ensures.adds c.in_err-here-in-T.ensures.adds
-
-pub returns-in_err-y-in-T-clause-adds : goal.returns-in_err-y-in-T-clause-adds
-returns-in_err-y-in-T-clause-adds t c =
-    let is : st_tree c.args.layout.now ≡ tseq c.in-T.n c.in-T.i (st_tree c.deref-of.result.now) = cc (ap st_tree c.in-T.is) in
-    gate_more (st_tree c.args.layout.now) (st_tree c.deref-of.result.now)
-    (ap st_depth is) c.in_ok-inner-in-T.ensures.adds c.in_ok-here-in-T.ensures.adds c.in_err-y-in-T.ensures.adds
 
 pub returns-in_ok-y-in-T-clause-adds : goal.returns-in_ok-y-in-T-clause-adds
 returns-in_ok-y-in-T-clause-adds t c =
@@ -72,12 +55,28 @@ returns-in_ok-y-in-T-clause-adds t c =
     gate_more (st_tree c.args.layout.now) (st_tree c.deref-of.result.now)
     (ap st_depth is) c.in_ok-inner-in-T.ensures.adds c.in_ok-here-in-T.ensures.adds c.in_ok-y-in-T.ensures.adds
 
-pub returns-in_err-y-in-S-clause-adds : goal.returns-in_err-y-in-S-clause-adds
-returns-in_err-y-in-S-clause-adds t c =
-    let is : st_tree c.args.layout.now ≡ sseq c.in-S.n (st_tree c.deref-of-in-S.result.now) = cc (ap st_tree c.in-S.is) in
-    part_cells (st_tree c.args.layout.now) (st_tree c.deref-of-in-S.result.now) (ap st_depth is) c.in_err-y-in-S.ensures.adds
-
 pub returns-in_ok-y-in-S-clause-adds : goal.returns-in_ok-y-in-S-clause-adds
 returns-in_ok-y-in-S-clause-adds t c =
     let is : st_tree c.args.layout.now ≡ sseq c.in-S.n (st_tree c.deref-of-in-S.result.now) = cc (ap st_tree c.in-S.is) in
     part_cells (st_tree c.args.layout.now) (st_tree c.deref-of-in-S.result.now) (ap st_depth is) c.in_ok-y-in-S.ensures.adds
+
+pub constant-requires-clause-room : goal.constant-requires-clause-room
+constant-requires-clause-room t c = omega (arith, c.requires.room)
+
+pub period_bit-requires-clause-room : goal.period_bit-requires-clause-room
+period_bit-requires-clause-room t c =
+    let is : st_tree c.args.layout.now ≡ tseq c.in-T.n c.in-T.i (st_tree c.deref-of.result.now) = cc (ap st_tree c.in-T.is) in
+    omega (arith, c.requires.room, ap st_depth is, c.in_ok-inner-in-T.ensures.adds.cells, c.in_ok-inner-in-T.ensures.adds.grows.limit)
+
+pub both-requires-clause-room : goal.both-requires-clause-room
+both-requires-clause-room t c =
+    let is : st_tree c.args.layout.now ≡ tseq c.in-T.n c.in-T.i (st_tree c.deref-of.result.now) = cc (ap st_tree c.in-T.is) in
+    omega (
+      arith,
+      c.requires.room,
+      ap st_depth is,
+      c.in_ok-inner-in-T.ensures.adds.cells,
+      c.in_ok-inner-in-T.ensures.adds.grows.limit,
+      c.in_ok-here-in-T.ensures.adds.cells,
+      c.in_ok-here-in-T.ensures.adds.grows.limit,
+    )

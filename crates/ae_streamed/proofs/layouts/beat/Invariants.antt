@@ -1,7 +1,7 @@
 use Rattle.std.proofs.Common.{map, take}
 use Rattle.ae_sttype.specs.StTree.{st_tree}
 use Rattle.ae_clocked.specs.Phases.{phase_of}
-use Rattle.ae_clocked.specs.Signals.{Adds}
+use Rattle.ae_gates.specs.Cells.{Adds}
 use Rattle.ae_stream.specs.Streams.{is_beat}
 use Rattle.ae_streamed.specs.Beats.{GainsBit}
 use Rattle.ae_streamed.specs.Count.{any_beat_cells}

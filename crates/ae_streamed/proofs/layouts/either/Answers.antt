@@ -1,20 +1,16 @@
 -- The gate of two bits.
-use Rattle.ae_clocked.proofs.Added.{or_operation}
+use Rattle.ae_gates.proofs.Added.{or_operation}
 use Rattle.ae_streamed.proofs.Bits.{or_bit}
 use Rattle.ae_netlist.specs.Circuit.{width_of}
-use Rattle.ae_clocked.proofs.Adding.{adds_same}
 use Rattle.ae_streamed.proofs.layouts.either.Goals as goal
 
-pub operate-requires : goal.operate-requires
-operate-requires c = or_operation c.args.nl.now.cells c.args.a c.args.b 1 c.requires.left c.requires.right
+pub operate-requires-clause-operation : goal.operate-requires-clause-operation
+operate-requires-clause-operation c = or_operation c.args.nl.now.cells c.args.a c.args.b 1 c.requires.left c.requires.right
 
 pub returns-clause-told : goal.returns-clause-told
 returns-clause-told c = λ rst f g p q.
     or_bit c.args.nl.now c.operate.new.nl rst c.args.a.0 c.args.b.0 c.in_ok-y.y.0
     (width_of c.args.nl.now.cells c.args.a.0) f g c.in_ok-y.ensures.adds.grows c.in_ok-y.ensures.net c.in_ok-y.ensures.words p q
-
-pub returns-in_err-y-clause-adds : goal.returns-in_err-y-clause-adds
-returns-in_err-y-clause-adds c = adds_same c.args.nl.now c.operate.new.nl 1 c.in_err-y.ensures.err
 
 pub returns-clause-adds : goal.returns-clause-adds
 returns-clause-adds c = c.in_ok-y.ensures.adds

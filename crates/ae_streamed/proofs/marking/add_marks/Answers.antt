@@ -1,9 +1,9 @@
 -- The marks, one behind the other.
-use Rattle.std.proofs.Common.{◌<◌, ◌%◌, map, ap}
+use Rattle.std.proofs.Common.{◌<◌, ◌%◌, map, ap, arith}
 use Rattle.std.proofs.lemmas.Nat.{mod_below}
 use Rattle.ae_sttype.specs.StTree.{st_tree}
 use Rattle.ae_clocked.specs.Phases.{Kept}
-use Rattle.ae_streamed.proofs.Counted.{marks1, marks2, marks3, marks4, marks5}
+use Rattle.ae_streamed.proofs.Counted.{marks5}
 use Rattle.ae_streamed.proofs.Gained.{belongs_new, has_marks}
 use Rattle.ae_streamed.proofs.marking.add_marks.Goals as goal
 
@@ -27,23 +27,44 @@ returns-clause-marks c =
     (ap (λ (k : Kept). k.rst) c.new-clocks.ensures) c.in_ok-first.ensures.gains c.in_ok-last.ensures.gains c.in_ok-wants.ensures.gains
     c.in_ok-late.ensures.gains c.in_ok-behind.ensures.gains)
 
-pub returns-in_err-first-clause-adds : goal.returns-in_err-first-clause-adds
-returns-in_err-first-clause-adds c = marks1 (map st_tree c.args.inputs.now) (map st_tree c.args.outputs.now) c.in_err-first.ensures.adds
+pub period_bit-requires-2-clause-room : goal.period_bit-requires-2-clause-room
+period_bit-requires-2-clause-room c = omega (arith, c.requires.room, c.in_ok-first.ensures.adds.cells, c.in_ok-first.ensures.adds.grows.limit)
 
-pub returns-in_err-last-clause-adds : goal.returns-in_err-last-clause-adds
-returns-in_err-last-clause-adds c =
-    marks2 (map st_tree c.args.inputs.now) (map st_tree c.args.outputs.now) c.in_ok-first.ensures.adds c.in_err-last.ensures.adds
+pub beat-requires-clause-room : goal.beat-requires-clause-room
+beat-requires-clause-room c =
+    omega (
+      arith,
+      c.requires.room,
+      c.in_ok-first.ensures.adds.cells,
+      c.in_ok-first.ensures.adds.grows.limit,
+      c.in_ok-last.ensures.adds.cells,
+      c.in_ok-last.ensures.adds.grows.limit,
+    )
 
-pub returns-in_err-wants-clause-adds : goal.returns-in_err-wants-clause-adds
-returns-in_err-wants-clause-adds c =
-    marks3 (map st_tree c.args.inputs.now) (map st_tree c.args.outputs.now) c.in_ok-first.ensures.adds c.in_ok-last.ensures.adds c.in_err-wants.ensures.adds
+pub beat-requires-2-clause-room : goal.beat-requires-2-clause-room
+beat-requires-2-clause-room c =
+    omega (
+      arith,
+      c.requires.room,
+      c.in_ok-first.ensures.adds.cells,
+      c.in_ok-first.ensures.adds.grows.limit,
+      c.in_ok-last.ensures.adds.cells,
+      c.in_ok-last.ensures.adds.grows.limit,
+      c.in_ok-wants.ensures.adds.cells,
+      c.in_ok-wants.ensures.adds.grows.limit,
+    )
 
-pub returns-in_err-late-clause-adds : goal.returns-in_err-late-clause-adds
-returns-in_err-late-clause-adds c =
-    marks4 (map st_tree c.args.inputs.now) (map st_tree c.args.outputs.now) c.in_ok-first.ensures.adds c.in_ok-last.ensures.adds c.in_ok-wants.ensures.adds
-    c.in_err-late.ensures.adds
-
-pub returns-in_err-behind-clause-adds : goal.returns-in_err-behind-clause-adds
-returns-in_err-behind-clause-adds c =
-    marks5 (map st_tree c.args.inputs.now) (map st_tree c.args.outputs.now) c.in_ok-first.ensures.adds c.in_ok-last.ensures.adds c.in_ok-wants.ensures.adds
-    c.in_ok-late.ensures.adds c.in_err-behind.ensures.adds
+pub period_bit-requires-3-clause-room : goal.period_bit-requires-3-clause-room
+period_bit-requires-3-clause-room c =
+    omega (
+      arith,
+      c.requires.room,
+      c.in_ok-first.ensures.adds.cells,
+      c.in_ok-first.ensures.adds.grows.limit,
+      c.in_ok-last.ensures.adds.cells,
+      c.in_ok-last.ensures.adds.grows.limit,
+      c.in_ok-wants.ensures.adds.cells,
+      c.in_ok-wants.ensures.adds.grows.limit,
+      c.in_ok-late.ensures.adds.cells,
+      c.in_ok-late.ensures.adds.grows.limit,
+    )

@@ -1,5 +1,4 @@
 -- Each turn adds one cell more.
-use Rattle.std.proofs.lemmas.Result.{err_from_is_err_and}
 use Rattle.std.proofs.Common.{◌≡◌, ◌∙◌, arith, length, refl, sym, subst}
 use Rattle.ae_streamed.specs.Room.{IsBegun}
 use Rattle.ae_streamed.proofs.Remade.{begun_none}
@@ -26,14 +25,12 @@ returns-clause-begun c =
     let end : c.loop-n.n ≡ length c.args.nl.now.cells = omega (arith, c.loop-n.invariant.all, c.loop-n-test.false, c.loop-n.invariant.begun.within) in
     subst (IsBegun c.args.nl.now.cells c.loop-n.new.cells) end c.loop-n.invariant.begun
 
-pub returns-in_err-begin_cell-clause-full : goal.returns-in_err-begin_cell-clause-full
-returns-in_err-begin_cell-clause-full c =
-    let p = err_from_is_err_and c.from_residual.result c.from_residual.ensures.1 in
-    rw (p.1, p.2) (λ e. omega (
-      arith,
-      c.in_err-begin_cell.ensures.full e,
-      c.loop-n.invariant.limit,
-      c.loop-n.invariant.begun.long,
-      c.loop-n.invariant.all,
-      c.loop-n-test.true,
-    ))
+pub begin_cell-requires-clause-room : goal.begin_cell-requires-clause-room
+begin_cell-requires-clause-room c = omega (
+  arith,
+  c.requires.room,
+  c.loop-n.invariant.limit,
+  c.loop-n.invariant.begun.long,
+  c.loop-n.invariant.all,
+  c.loop-n-test.true,
+)

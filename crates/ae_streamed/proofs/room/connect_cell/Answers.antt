@@ -3,7 +3,7 @@ use Rattle.std.proofs.Common.{◌≡◌, ◌∙◌, false, true, arith, ap, sym}
 use Rattle.ae_netlist.specs.Circuit.{Circuit}
 use Rattle.ae_streamed.proofs.Remade.{begun_other, made_idle, memory_idle, memory_made, memory_there, memory_written, register_made, register_next, register_there}
 use Rattle.ae_streamed.proofs.room.connect_cell.Goals as goal
-use Rattle.ae_clocked.proofs.Added.{own_register}
+use Rattle.ae_clocked.proofs.Connecting.{own_register}
 
 pub connect-requires-clause-register : goal.connect-requires-clause-register
 connect-requires-clause-register c =

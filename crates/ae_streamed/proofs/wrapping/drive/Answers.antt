@@ -1,11 +1,10 @@
 -- The control, the queues, and the outputs.
-use Rattle.std.proofs.lemmas.Result.{err_from_is_err_and}
 use Rattle.std.proofs.Common.{◌+◌, ◌*◌, arith, length, ap, sym, ◌∙◌, subst}
 use Rattle.ae_netlist.specs.Circuit.{IsNet, width_of}
 use Rattle.ae_netlist.proofs.Growing.{net_later}
 use Rattle.ae_streamed.proofs.Copied.{has_driver}
 use Rattle.ae_streamed.proofs.wrapping.drive.Goals as goal
-use Rattle.ae_clocked.proofs.Added.{own_net as own_width}
+use Rattle.ae_gates.proofs.Added.{own_net as own_width}
 
 pub columns-requires-clause-nets : goal.columns-requires-clause-nets
 columns-requires-clause-nets c = λ k net found. own_width (net_later c.in_ok-c.ensures.longer.extends (c.requires.nets k net found))
@@ -34,12 +33,8 @@ returns-clause-driver c = λ m is.
 pub returns-clause-few : goal.returns-clause-few
 returns-clause-few c = omega (arith, c.in_ok-c.ensures.few, c.in_ok-columns.ensures.long, c.requires.shown, ap length c.in_ok-show_all.ensures.cells)
 
-pub returns-in_err-c-clause-full : goal.returns-in_err-c-clause-full
-returns-in_err-c-clause-full c =
-    let p = err_from_is_err_and c.from_residual.result c.from_residual.ensures.1 in
-    rw (p.1, p.2) (λ e. omega (arith, c.in_err-c.ensures.full e))
+pub control-requires-clause-room : goal.control-requires-clause-room
+control-requires-clause-room c = omega (arith, c.requires.room)
 
-pub returns-in_err-columns-clause-full : goal.returns-in_err-columns-clause-full
-returns-in_err-columns-clause-full c =
-    let p = err_from_is_err_and c.from_residual-in_err-columns.result c.from_residual-in_err-columns.ensures.1 in
-    rw (p.1, p.2) (λ e. omega (arith, c.in_err-columns.ensures.full e, c.in_ok-c.ensures.longer.limit, c.in_ok-c.ensures.few, c.requires.shown))
+pub columns-requires-clause-room : goal.columns-requires-clause-room
+columns-requires-clause-room c = omega (arith, c.requires.room, c.in_ok-c.ensures.longer.limit, c.in_ok-c.ensures.few, c.requires.shown)

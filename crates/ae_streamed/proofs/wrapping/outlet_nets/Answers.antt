@@ -5,7 +5,7 @@ use Rattle.ae_stall.specs.Images.{placed_net}
 use Rattle.ae_streamed.specs.Between.{copied_nets}
 use Rattle.ae_control.proofs.Cells.{next_first}
 use Rattle.ae_streamed.proofs.wrapping.outlet_nets.Goals as goal
-use Rattle.ae_clocked.proofs.Added.{net_within}
+use Rattle.ae_gates.proofs.Added.{net_within}
 
 pub placed-net-requires-clause-there : goal.placed-net-requires-clause-there
 placed-net-requires-clause-there c = net_within (c.formed.ensures.outlets.each c.loop-k.k c.outlet_at-outlet.result c.outlet_at-outlet.ensures)

@@ -1,6 +1,6 @@
 -- Each mark is a net.
 use Rattle.ae_streamed.proofs.wrapping.placed_wires.Goals as goal
-use Rattle.ae_clocked.proofs.Added.{net_within}
+use Rattle.ae_gates.proofs.Added.{net_within}
 
 pub placed-first-requires-clause-there : goal.placed-first-requires-clause-there
 placed-first-requires-clause-there c = net_within c.requires.marks.first

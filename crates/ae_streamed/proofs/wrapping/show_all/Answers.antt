@@ -3,22 +3,22 @@ use Rattle.std.proofs.Common.{◌+◌, ◌*◌, ap, sym, ◌∙◌, arith, subst
 use Rattle.ae_netlist.specs.Circuit.{Circuit, IsNet, width_of}
 use Rattle.ae_streamed.proofs.Copied.{all_shown, shown_more, shown_none}
 use Rattle.ae_streamed.proofs.wrapping.show_all.Goals as goal
-use Rattle.ae_clocked.proofs.Added.{net_within, own_net as own_width}
+use Rattle.ae_gates.proofs.Added.{net_within, own_net as own_width}
 
 pub show-requires-clause-net : goal.show-requires-clause-net
 show-requires-clause-net c = own_width c.requires.asks
 
 pub show-requires-2-clause-net : goal.show-requires-2-clause-net
 show-requires-2-clause-net c =
-    subst (λ v. IsNet v c.args.c.one.0 (width_of v c.args.c.one.0)) (sym (ap (λ (v : Circuit). v.cells) c.in_ok-show.ensures.shown)) (own_width c.requires.one)
+    subst (λ v. IsNet v c.args.c.one.0 (width_of v c.args.c.one.0)) (sym (ap (λ (v : Circuit). v.cells) c.in_ok-show.ensures)) (own_width c.requires.one)
 
 pub loop-k-init : goal.loop-k-init
 loop-k-init c = record {
   all = c.outputs-k-end.ensures;
-  cells = ap (λ (v : Circuit). v.cells) c.in_ok-show-2.ensures.shown ∙ ap (λ (v : Circuit). v.cells) c.in_ok-show.ensures.shown;
-  limit = ap (λ (v : Circuit). v.limit) c.in_ok-show-2.ensures.shown ∙ ap (λ (v : Circuit). v.limit) c.in_ok-show.ensures.shown;
+  cells = ap (λ (v : Circuit). v.cells) c.in_ok-show-2.ensures ∙ ap (λ (v : Circuit). v.cells) c.in_ok-show.ensures;
+  limit = ap (λ (v : Circuit). v.limit) c.in_ok-show-2.ensures ∙ ap (λ (v : Circuit). v.limit) c.in_ok-show.ensures;
   shown = shown_none c.args.c c.args.at c.args.nl.now.outlets c.args.new.now.outlets c.show.new.new.outlets c.show-2.new.new.outlets c.requires.none
-      (ap (λ (v : Circuit). v.outlets) c.in_ok-show.ensures.shown) (ap (λ (v : Circuit). v.outlets) c.in_ok-show-2.ensures.shown);
+      (ap (λ (v : Circuit). v.outlets) c.in_ok-show.ensures) (ap (λ (v : Circuit). v.outlets) c.in_ok-show-2.ensures);
 }
 
 pub overflow_add-at : goal.overflow_add-at
@@ -41,10 +41,10 @@ show-requires-in-loop-k-clause-room c = omega (arith, c.loop-k.invariant.shown.l
 pub loop-k-preserved : goal.loop-k-preserved
 loop-k-preserved c = record {
   all = c.loop-k.invariant.all;
-  cells = ap (λ (v : Circuit). v.cells) c.in_ok-show-3.ensures.shown ∙ c.loop-k.invariant.cells;
-  limit = ap (λ (v : Circuit). v.limit) c.in_ok-show-3.ensures.shown ∙ c.loop-k.invariant.limit;
+  cells = ap (λ (v : Circuit). v.cells) c.in_ok-show-3.ensures ∙ c.loop-k.invariant.cells;
+  limit = ap (λ (v : Circuit). v.limit) c.in_ok-show-3.ensures ∙ c.loop-k.invariant.limit;
   shown = shown_more c.args.c c.args.at c.loop-k.k c.args.nl.now.outlets c.loop-k.new.outlets c.show-in-loop-k.new.new.outlets c.outlet_at-outlet.result
-      c.outlet_at-outlet.ensures c.loop-k.invariant.shown (ap (λ (v : Circuit). v.outlets) c.in_ok-show-3.ensures.shown);
+      c.outlet_at-outlet.ensures c.loop-k.invariant.shown (ap (λ (v : Circuit). v.outlets) c.in_ok-show-3.ensures);
 }
 
 pub returns-clause-shown : goal.returns-clause-shown

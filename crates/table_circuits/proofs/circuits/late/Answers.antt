@@ -1,4 +1,4 @@
-use Rattle.ae_clocked.proofs.Added.{own_register, net_own}
+use Rattle.ae_clocked.proofs.Connecting.{own_register, net_own}
 use Rattle.table_circuits.proofs.circuits.late.Goals as goal
 
 pub connect-requires-clause-register : goal.connect-requires-clause-register

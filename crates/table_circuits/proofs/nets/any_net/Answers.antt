@@ -1,5 +1,5 @@
 use Rattle.std.proofs.Common.{◌∙◌, sym, refl, rules}
-use Rattle.ae_clocked.proofs.Added.{own_net}
+use Rattle.ae_gates.proofs.Added.{own_net}
 use Rattle.table_circuits.proofs.There.{net_there}
 use Rattle.table_circuits.proofs.nets.any_net.Goals as goal
 

@@ -6,3 +6,6 @@ delay-requires-clause-nets c = own_even _ c.args.lanes c.args.width _ c.requires
 
 pub show-requires : goal.show-requires
 show-requires c = rw c.nets.ensures (own_widths _ _ _ (c.in_ok-late.ensures.nets _ (even_nets _ c.args.lanes c.args.width _ c.requires.nets)))
+
+pub delay-requires-clause-room : goal.delay-requires-clause-room
+delay-requires-clause-room c = rw c.requires.nets.long c.requires.room

@@ -2,7 +2,7 @@
 use Rattle.std.proofs.Common.{◌∙◌, sym, arith}
 use Rattle.ae_clocked.proofs.InRow.{keeps_trans}
 use Rattle.ae_clocked.proofs.Belonging.{phase_keeps, keeps_same, marked_keeps}
-use Rattle.ae_clocked.proofs.Adding.{adds_most, adds_none, adds_trans}
+use Rattle.ae_gates.proofs.Adding.{adds_most, adds_none, adds_trans}
 use Rattle.ae_clocked.proofs.clocks.Clocks.lead.Goals as goal
 
 pub returns-in-Some-clause-marks : goal.returns-in-Some-clause-marks
@@ -14,32 +14,17 @@ returns-in-Some-clause-keeps c = keeps_same _
 pub returns-in-Some-clause-adds : goal.returns-in-Some-clause-adds
 returns-in-Some-clause-adds c = adds_most 21 (omega arith) (adds_none _)
 
-pub returns-in_err-counter-clause-belongs : goal.returns-in_err-counter-clause-belongs
-returns-in_err-counter-clause-belongs c = c.in_err-counter.ensures.belongs
-
-pub returns-in_err-counter-clause-keeps : goal.returns-in_err-counter-clause-keeps
-returns-in_err-counter-clause-keeps c = rw c.in_err-counter.ensures.refused (keeps_same _)
-
-pub returns-in_err-counter-clause-adds : goal.returns-in_err-counter-clause-adds
-returns-in_err-counter-clause-adds c = adds_most 21 (omega arith) c.in_err-counter.ensures.adds
-
-pub returns-in_err-y-clause-keeps : goal.returns-in_err-y-clause-keeps
-returns-in_err-y-clause-keeps c =
-    keeps_trans
-    (phase_keeps _ _ _ c.in_ok-counter.counter c.in_ok-counter.ensures.rst c.in_ok-counter.ensures.keeps (λ n found. (c.in_ok-counter.ensures.again n found).2))
-    (marked_keeps _ _ c.in_err-y.ensures.rst c.in_err-y.ensures.counters)
-
 pub returns-clause-keeps : goal.returns-clause-keeps
 returns-clause-keeps c =
     keeps_trans
     (phase_keeps _ _ _ c.in_ok-counter.counter c.in_ok-counter.ensures.rst c.in_ok-counter.ensures.keeps (λ n found. (c.in_ok-counter.ensures.again n found).2))
     (marked_keeps _ _ c.in_ok-y.ensures.rst c.in_ok-y.ensures.counters)
 
-pub returns-in_err-y-clause-adds : goal.returns-in_err-y-clause-adds
-returns-in_err-y-clause-adds c = adds_trans c.in_ok-counter.ensures.adds c.in_err-y.ensures.adds
-
 pub returns-clause-adds : goal.returns-clause-adds
 returns-clause-adds c = adds_trans c.in_ok-counter.ensures.adds c.in_ok-y.ensures.adds
 
 pub returns-clause-marks : goal.returns-clause-marks
 returns-clause-marks c = rw c.in_ok-counter.ensures.rst at c.in_ok-y.ensures.mark.words
+
+pub make_mark-requires-clause-room : goal.make_mark-requires-clause-room
+make_mark-requires-clause-room c = omega (arith, c.requires.room, c.in_ok-counter.ensures.adds.cells, c.in_ok-counter.ensures.adds.grows.limit)

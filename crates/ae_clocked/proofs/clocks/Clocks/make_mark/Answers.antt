@@ -14,12 +14,6 @@ marked-requires-clause-counter c =
     let rst : c.self.inside.rst.0 ≡ c.args.self.now.rst = ap (λ (v : Kept). v.rst) c.self.view_is in
     rw rst c.requires.counter
 
-pub returns-in_err-y-clause-belongs : goal.returns-in_err-y-clause-belongs
-returns-in_err-y-clause-belongs c = belongs_grows _ _ _ c.in_err-y.ensures.adds.grows c.requires.belongs
-
-pub returns-in_err-keep_mark-clause-belongs : goal.returns-in_err-keep_mark-clause-belongs
-returns-in_err-keep_mark-clause-belongs c = rw c.in_err-keep_mark.ensures.err (belongs_grows _ _ _ c.in_ok-y.ensures.adds.grows c.requires.belongs)
-
 pub returns-clause-mark : goal.returns-clause-mark
 returns-clause-mark c =
     let rst : c.self.inside.rst.0 ≡ c.args.self.now.rst = ap (λ (v : Kept). v.rst) c.self.view_is in

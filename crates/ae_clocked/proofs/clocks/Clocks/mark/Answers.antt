@@ -1,7 +1,7 @@
 -- The mark of the counter's own phase.
 use Rattle.std.proofs.Common.{◌∙◌, sym, arith}
 use Rattle.ae_netlist.proofs.Growing.{extends_trans}
-use Rattle.ae_clocked.proofs.Adding.{adds_most, adds_none}
+use Rattle.ae_gates.proofs.Adding.{adds_most, adds_none}
 use Rattle.ae_clocked.proofs.Belonging.{keeps_same, marked_keeps}
 use Rattle.ae_clocked.proofs.Marked.{marks_counter}
 use Rattle.ae_clocked.proofs.clocks.Clocks.mark.Goals as goal
@@ -18,9 +18,6 @@ returns-in-Some-clause-keeps c = keeps_same _
 
 pub returns-in-Some-clause-adds : goal.returns-in-Some-clause-adds
 returns-in-Some-clause-adds c = adds_most 9 (omega arith) (adds_none _)
-
-pub returns-in_err-y-clause-keeps : goal.returns-in_err-y-clause-keeps
-returns-in_err-y-clause-keeps c = marked_keeps _ _ c.in_err-y.ensures.rst c.in_err-y.ensures.counters
 
 pub returns-clause-keeps : goal.returns-clause-keeps
 returns-clause-keeps c = marked_keeps _ _ c.in_ok-y.ensures.rst c.in_ok-y.ensures.counters

@@ -4,12 +4,6 @@ use Rattle.ae_clocked.specs.Phases.{Kept, IsCounter}
 use Rattle.ae_clocked.proofs.Belonging.{belongs_grows, belongs_more, counter_made}
 use Rattle.ae_clocked.proofs.clocks.Clocks.phase.Goals as goal
 
-pub returns-in_err-net-clause-belongs : goal.returns-in_err-net-clause-belongs
-returns-in_err-net-clause-belongs c = belongs_grows _ _ _ c.in_err-net.ensures.adds.grows c.requires.belongs
-
-pub returns-in_err-keep-clause-belongs : goal.returns-in_err-keep-clause-belongs
-returns-in_err-keep-clause-belongs c = rw c.in_err-keep.ensures.err (belongs_grows _ _ _ c.in_ok-net.ensures.adds.grows c.requires.belongs)
-
 pub returns-clause-counts : goal.returns-clause-counts
 returns-clause-counts c =
     let rst : c.self.inside.rst.0 ≡ c.args.self.now.rst = ap (λ (v : Kept). v.rst) c.self.view_is in
@@ -37,12 +31,6 @@ counter-requires-clause-last c = omega (arith, c.from.ensures, c.width_for-width
 
 pub counter-requires-clause-first : goal.counter-requires-clause-first
 counter-requires-clause-first c = omega (arith, c.from-2.ensures, c.width_for-width.ensures.holds.enough)
-
-pub returns-in_err-net-clause-adds : goal.returns-in_err-net-clause-adds
-returns-in_err-net-clause-adds c = c.in_err-net.ensures.adds
-
-pub returns-in_err-keep-clause-adds : goal.returns-in_err-keep-clause-adds
-returns-in_err-keep-clause-adds c = c.in_ok-net.ensures.adds
 
 pub returns-clause-adds : goal.returns-clause-adds
 returns-clause-adds c = c.in_ok-net.ensures.adds

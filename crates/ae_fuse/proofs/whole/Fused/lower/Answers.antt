@@ -11,7 +11,7 @@ use Rattle.ae_moves.proofs.Lists.{get_mapped}
 use Rattle.ae_ports.specs.Ports.{input_cell, output_ports, reset_port, streams_of}
 use Rattle.ae_rewrite.specs.StProgramTree.{st_trees}
 use Rattle.ae_tidy.specs.Places.{AreMarks}
-use Rattle.ae_lower.specs.Growth.{Adds, GrowsBy}
+use Rattle.ae_lower.specs.Growth.{AddsMulsAndMemories, GrowsBy}
 use Rattle.ae_lower.specs.PortNets.{AddsOutputs, bundles_from}
 use Rattle.ae_lower.specs.Ported.{HasBegun}
 use Rattle.ae_lower.proofs.Outputs.{all_nets, outputs_cells}
@@ -121,7 +121,7 @@ returns-clause-circuit c =
     (ap (λ (n : NetId). n.0) c.in_ok-rst.ensures.net ∙ ap (λ (n : Circuit). length n.cells) c.new-nl.ensures) in
     let grown : GrowsBy a b (sum_by (result_load f.latency) (moves_in f)) = subst (GrowsBy a b)
     (λ i. sum_by (result_load (latency i)) (moves i)) c.in_ok-built.ensures.grows in
-    let added : Adds a b 0 (sum_by (result_mems f.latency) (moves_in f)) = subst (Adds a b 0)
+    let added : AddsMulsAndMemories a b 0 (sum_by (result_mems f.latency) (moves_in f)) = subst (AddsMulsAndMemories a b 0)
     (λ i. sum_by (result_mems (latency i)) (moves i)) c.in_ok-built.ensures.adds in
     let moved : AreLateResults b.cells 0 f.latency (moves_in f) (length f.results) (bundles_from 1 (streams_of ins)) bundles =
     subst (AreLateResults b.cells 0 f.latency (moves_in f) (length f.results) (bundles_from 1 (streams_of ins))) (sym c.deref-2.ensures.value)

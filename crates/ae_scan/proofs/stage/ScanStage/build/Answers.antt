@@ -1,13 +1,8 @@
 -- The stage's circuit, by what it stands on.
-use Rattle.std.proofs.Common.{arith, ℕ, ◌+◌, ◌≤◌}
+use Rattle.std.proofs.Common.{arith}
 use Rattle.ae_fold.proofs.Building.{build_folds, build_long, build_memories, build_nets, build_of, build_whole}
 use Rattle.ae_scan.proofs.Building.{build_bundle, build_cells, build_law, build_products}
-use Rattle.ae_clocked.proofs.Adding.{grows_refl}
-use Rattle.ae_clocked.proofs.Belonging.{keeps_same}
 use Rattle.ae_scan.proofs.stage.ScanStage.build.Goals as goal
-
-at_least : (a more : ℕ) → a ≤ a + more
-at_least a more = omega arith
 
 pub scanned-requires-clause-folds : goal.scanned-requires-clause-folds
 scanned-requires-clause-folds c =
@@ -33,21 +28,20 @@ scanned-requires-clause-whole c =
     (build_of _ _ _ _ _ c.args.ins.now _ _ c.self.invariant c.deref.ensures.value c.in_ok-folds.ensures c.plan-plan.ensures.plan
     c.plan-plan.ensures.numbers (rw (← c.self.view_is) at c.requires.bundles) c.index-ins-0.is c.nets-nets.ensures)
 
-pub returns-in_err-outs-clause-cells : goal.returns-in_err-outs-clause-cells
-returns-in_err-outs-clause-cells c =
-    rw (← c.self.view_is)
-    (build_cells _ _ _ _ _ _ _ _
-    (build_of _ _ _ _ _ c.args.ins.now _ _ c.self.invariant c.deref.ensures.value c.in_ok-folds.ensures c.plan-plan.ensures.plan
-    c.plan-plan.ensures.numbers (rw (← c.self.view_is) at c.requires.bundles) c.index-ins-0.is c.nets-nets.ensures)
-    c.in_err-outs.ensures.up)
-
 pub returns-clause-cells : goal.returns-clause-cells
 returns-clause-cells c =
-    rw (← c.self.view_is)
-    (build_cells _ _ _ _ _ _ _ _
+    let room = build_cells _ _ _ _ _ _
     (build_of _ _ _ _ _ c.args.ins.now _ _ c.self.invariant c.deref.ensures.value c.in_ok-folds.ensures c.plan-plan.ensures.plan
-    c.plan-plan.ensures.numbers (rw (← c.self.view_is) at c.requires.bundles) c.index-ins-0.is c.nets-nets.ensures)
-    c.in_ok-outs.ensures.up)
+    c.plan-plan.ensures.numbers (rw (← c.self.view_is) at c.requires.bundles) c.index-ins-0.is c.nets-nets.ensures) in
+    rw (← c.self.view_is) (omega (arith, c.in_ok-outs.ensures.adds.cells, room))
+
+pub scanned-requires-clause-room : goal.scanned-requires-clause-room
+scanned-requires-clause-room c =
+    let room = build_cells _ _ _ _ _ _
+    (build_of _ _ _ _ _ c.args.ins.now _ _ c.self.invariant c.deref.ensures.value c.in_ok-folds.ensures c.plan-plan.ensures.plan
+    c.plan-plan.ensures.numbers (rw (← c.self.view_is) at c.requires.bundles) c.index-ins-0.is c.nets-nets.ensures) in
+    let all = rw (← c.self.view_is) at c.requires.room in
+    omega (arith, all, room)
 
 pub returns-clause-muls : goal.returns-clause-muls
 returns-clause-muls c =
@@ -79,27 +73,6 @@ scanned-requires-clause-plan c = c.plan-plan.ensures.plan
 pub scanned-requires-clause-belongs : goal.scanned-requires-clause-belongs
 scanned-requires-clause-belongs c = c.requires.belongs
 
-pub returns-in_err-folds-clause-belongs : goal.returns-in_err-folds-clause-belongs
-returns-in_err-folds-clause-belongs c = c.requires.belongs
-
-pub returns-in_err-folds-clause-keeps : goal.returns-in_err-folds-clause-keeps
-returns-in_err-folds-clause-keeps c = keeps_same _
-
-pub returns-in_err-folds-clause-grows : goal.returns-in_err-folds-clause-grows
-returns-in_err-folds-clause-grows c = grows_refl _
-
-pub returns-in_err-folds-clause-cells : goal.returns-in_err-folds-clause-cells
-returns-in_err-folds-clause-cells c = at_least _ _
-
-pub returns-in_err-outs-clause-belongs : goal.returns-in_err-outs-clause-belongs
-returns-in_err-outs-clause-belongs c = c.in_err-outs.ensures.belongs
-
-pub returns-in_err-outs-clause-keeps : goal.returns-in_err-outs-clause-keeps
-returns-in_err-outs-clause-keeps c = c.in_err-outs.ensures.keeps
-
-pub returns-in_err-outs-clause-grows : goal.returns-in_err-outs-clause-grows
-returns-in_err-outs-clause-grows c = c.in_err-outs.ensures.up.grows
-
 pub returns-clause-belongs : goal.returns-clause-belongs
 returns-clause-belongs c = c.in_ok-outs.ensures.belongs
 
@@ -107,7 +80,7 @@ pub returns-clause-keeps : goal.returns-clause-keeps
 returns-clause-keeps c = c.in_ok-outs.ensures.keeps
 
 pub returns-clause-grows : goal.returns-clause-grows
-returns-clause-grows c = c.in_ok-outs.ensures.up.grows
+returns-clause-grows c = c.in_ok-outs.ensures.adds.grows
 
 pub returns-clause-memories : goal.returns-clause-memories
 returns-clause-memories c =
