@@ -66,8 +66,8 @@ fn ordered(alloc: Global, names: &Names<'_>, m: &VModule<'_>) -> Result<Netlist,
     ensures few { IfOk result (λ n. length n.cells ≤ 8 * weight (module_tree m.now)) }
     ensures plain { IfOk result (λ n. HasPlainPorts n) }
 {
+    let order = sorted_wires(alloc, names, m)?;
     let values = drive_values(alloc, names, m)?;
-    let order = sorted_wires(alloc, names, m, &values)?;
     let nl = construct(alloc, names, m, values, order)?;
     Ok(nl)
 }

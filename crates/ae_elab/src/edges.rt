@@ -21,7 +21,7 @@ ghost use Rattle.ae_assign.specs.Edges.{ActsItems, AreFresh, FitNexts, FitsNext,
 use ae_assign::{Next, act};
 use ae_judge::Names;
 use ae_netlist::{NetId, Netlist};
-use ae_vmodule::{VItem, VModule, VNet, Words};
+use ae_vmodule::{ItemParts, VItem, VModule, VNet, WordList};
 use std::alloc::{AllocError, Global};
 
 /// What registers and memories take after an item.
@@ -45,11 +45,11 @@ fn act_item(
     ensures others { OnOk result (OthersKeep names.now.nets nexts.old.items nexts.new.items (item_targets (item_tree names.now.words item.now))) }
     ensures acts { OnOk result (ActsItems from names.now.nets nets.now nl.new.cells nexts.old.items nexts.new.items (item_tree names.now.words item.now ∷ [])) }
 {
-    match item {
-        VItem::Nets(_) => Ok(()),
-        VItem::Assign(_) => Ok(()),
-        VItem::Always { body, .. } => {
-            act(nl, from, names, nets, nexts, None, body.stmt())?;
+    match item.parts() {
+        ItemParts::Nets(_) => Ok(()),
+        ItemParts::Assign(_) => Ok(()),
+        ItemParts::Always { body, .. } => {
+            act(nl, from, names, nets, nexts, None, body)?;
             Ok(())
         }
     }
@@ -82,7 +82,7 @@ fn act_items(
 }
 
 /// Connects a register or a memory to what it takes.
-fn connect(nl: &mut Netlist, _from: u32, _words: &Words<'_>, x: &VNet, net: NetId, next: Next)
+fn connect(nl: &mut Netlist, _from: u32, _words: &WordList<'_>, x: &VNet, net: NetId, next: Next)
     requires unconnected { IsUnconnected (net_tree _words.now x.now).kind nl.old.cells net.0 (net_tree _words.now x.now).width }
     requires early { is_state (net_tree _words.now x.now) ≡ true → net.0 < _from }
     requires fits { FitsNext nl.old.cells (net_tree _words.now x.now) next }

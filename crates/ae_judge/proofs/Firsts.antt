@@ -6,7 +6,7 @@ use Rattle.std.specs.List.{list_any}
 use Rattle.std.specs.Prelude.{flat_map}
 use Rattle.ae_vmodule.specs.ModuleTree.{NetTree, DriveTree}
 use Rattle.ae_vmodule.specs.View.{item_tree}
-use Rattle.ae_vmodule.specs.declared.module.VItem.{VItem}
+use Rattle.ae_vmodule.specs.declared.items.VItem.{VItem}
 use Rattle.ae_judge.specs.Names.{item_targets, names_in}
 use Rattle.ae_judge.specs.Places.{Entry, with_place}
 use Rattle.ae_judge.specs.Judging.{with_names, drives_twice, first_twice, is_declared_before, has_place, is_unknown, is_late, drives_unknown}

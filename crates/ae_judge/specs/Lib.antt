@@ -3,6 +3,7 @@ pub mod Widths
 pub mod Weight
 pub mod Faults
 pub mod Places
+pub mod MaybePlaces
 pub mod Seen
 pub mod Shape
 pub mod Regular

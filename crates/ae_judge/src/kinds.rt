@@ -11,7 +11,7 @@ ghost use Rattle.ae_judge.specs.Faults.{is_misused, is_misused_in_stmt, is_misus
 
 use crate::names::{Names, is_input_kind};
 use crate::reads::item_reads;
-use ae_vmodule::{Drive, Expr, Stmt, StmtRoot, Symbol, VItem};
+use ae_vmodule::{Drive, Expr, ItemParts, Stmt, StmtRoot, Symbol, VItem};
 use std::alloc::{AllocError, Global};
 
 /// Whether a symbol misuses the name that it reads; `placed` tells whether a decimal number stands right before it.
@@ -138,8 +138,8 @@ fn first_clock(names: &Names<'_>, items: &[VItem]) -> Option<u32>
     ensures { option_map (word_at names.now.words) result ≡ first_clock (map (item_tree names.now.words) items.now) }
 {
     'item: for item in items {
-        if let VItem::Always { clock, .. } = item {
-            return Some(*clock);
+        if let ItemParts::Always { clock, .. } = item.parts() {
+            return Some(clock);
         }
     }
     None
@@ -175,13 +175,13 @@ pub fn clock_of(names: &Names<'_>, items: &[VItem]) -> Option<u32>
 fn is_misused_in_item(names: &Names<'_>, clock: Option<u32>, item: &VItem) -> bool
     ensures { result ≡ misused_in names.now.nets (option_map (word_at names.now.words) clock) (item_tree names.now.words item.now) }
 {
-    match item {
-        VItem::Nets(drives) => any_misused_drive(names, drives),
-        VItem::Assign(drives) => any_misused_drive(names, drives),
-        VItem::Always { clock: named, body } => {
-            !is_named(names, *named, clock)
-                || !names.is_one_bit_input(*named)
-                || is_misused_in_stmt(names, body.stmt())
+    match item.parts() {
+        ItemParts::Nets(drives) => any_misused_drive(names, drives),
+        ItemParts::Assign(drives) => any_misused_drive(names, drives),
+        ItemParts::Always { clock: named, body } => {
+            !is_named(names, named, clock)
+                || !names.is_one_bit_input(named)
+                || is_misused_in_stmt(names, body)
         }
     }
 }

@@ -4,6 +4,7 @@
 mod fault;
 mod judging;
 mod kinds;
+mod maybe_place;
 mod names;
 mod places;
 mod reads;

@@ -1,6 +1,6 @@
 // The declarations of names.
 
-ghost use Rattle.std.specs.Prelude.{List, ◌≡◌, ◌<◌, ◌^◌, IfOk, IfSome, Some, None, bytes_eq, if◌then◌else◌, is_some, [], length, map, option_and_then, option_map, replicate, slice_get};
+ghost use Rattle.std.specs.Prelude.{List, ◌≡◌, ◌<◌, ◌-◌, ◌^◌, IfOk, IfSome, Some, None, bytes_eq, if◌then◌else◌, is_some, [], length, map, option_and_then, option_map, replicate, slice_get};
 ghost use Rattle.std.specs.List.{IsDistinct};
 ghost use Rattle.std.specs.Option.{option_or};
 ghost use Rattle.ae_vmodule.specs.View.{net_tree, word_at};
@@ -10,18 +10,19 @@ ghost use Rattle.ae_judge.specs.Places.{AreNoted, Entry, place_in, place_named, 
 ghost use Rattle.ae_judge.specs.Judging.{first_again};
 ghost use Rattle.ae_judge.specs.Widths.{declared_width};
 
+use crate::maybe_place::MaybePlace;
 use ae_keyed::Keyed;
-use ae_vmodule::{NetKind, VNet, Words};
+use ae_vmodule::{NetKind, VNet, WordList};
 use std::alloc::{AllocError, Global};
 use std::marker::Model;
 
 /// The nets of a module, found by their names: of nets of one name the first.
 #[derive(Drop)]
 pub struct Names<'m> {
-    words: &'m Words<'m>,
+    words: &'m WordList<'m>,
     nets: &'m [VNet],
     /// The place of the first declaration of each name, by its number.
-    places: Vec<Option<u32>>,
+    places: Vec<MaybePlace>,
     /// The item of the first net whose name an earlier one has.
     again: Option<u32>,
 }
@@ -51,22 +52,23 @@ fn noted(again: Option<u32>, there: bool, item: u32) -> Option<u32>
 }
 
 /// No places, for so many names.
-fn no_places(alloc: Global, count: usize) -> Result<Vec<Option<u32>>, AllocError>
+fn no_places(alloc: Global, count: usize) -> Result<Vec<MaybePlace>, AllocError>
     ensures { IfOk result (λ places. places.items ≡ replicate count None) }
 {
-    let places = vec![in alloc; None; count]?;
+    let places = vec![in alloc; MaybePlace::none(); count]?;
     Ok(places)
 }
 
 /// Notes a place, unless one was noted, which it answers.
-fn put(noted: &mut Option<u32>, place: u32) -> bool
+fn put(noted: &mut MaybePlace, place: u32) -> bool
+    requires few { place < 2 ^ 32 - 1 }
     ensures there { result ≡ is_some noted.old }
     ensures put { noted.new ≡ option_or noted.old (Some place) }
 {
-    match *noted {
+    match noted.place() {
         Some(_) => true,
         None => {
-            *noted = Some(place);
+            *noted = MaybePlace::some(place);
             false
         }
     }
@@ -75,13 +77,13 @@ fn put(noted: &mut Option<u32>, place: u32) -> bool
 /// Notes the place of a name by its number, unless one was noted, which it answers; that of a name that is empty, as none of
 /// a text is, stands by itself.
 fn note(
-    words: &Words<'_>,
-    places: &mut Vec<Option<u32>>,
-    empty: &mut Option<u32>,
+    words: &WordList<'_>,
+    places: &mut Vec<MaybePlace>,
+    empty: &mut MaybePlace,
     number: u32,
     place: usize,
 ) -> bool
-    requires few { place < 2 ^ 32 }
+    requires few { place < 2 ^ 32 - 1 }
     requires apart { IsDistinct bytes_eq words.now }
     requires long { length places.old.items ≡ length words.now }
     ensures there { (es : List Entry) → AreNoted words.now es places.old.items empty.old → result ≡ is_some (place_in es (word_at words.now number)) }
@@ -97,7 +99,7 @@ impl<'m> Names<'m> {
     /// A table of these nets, in time linear in them.
     pub fn of(
         alloc: Global,
-        words: &'m Words<'m>,
+        words: &'m WordList<'m>,
         nets: &'m [VNet],
     ) -> Result<Names<'m>, AllocError>
         requires few { length nets.now < 2 ^ 32 }
@@ -105,7 +107,7 @@ impl<'m> Names<'m> {
     {
         words.apart();
         let mut places = no_places(alloc, words.len())?;
-        let mut empty = None;
+        let mut empty = MaybePlace::none();
         let mut again = None;
         'net: for place in 0..nets.len() {
             let net = nets[place];
@@ -151,12 +153,21 @@ impl<'m> Names<'m> {
         self.words.name(name)
     }
 
+    /// The place that is noted for a number, if there is one.
+    fn noted_at(&self, name: u32) -> Option<u32>
+        ensures { IfSome result (λ p. place_named self.now.nets (word_at self.now.words name) ≡ Some p) }
+    {
+        match self.places.get(name as usize) {
+            Some(noted) => noted.place(),
+            None => None,
+        }
+    }
+
     /// The place that is noted for a number, or found by its text.
     fn noted_place(&self, name: u32) -> Option<usize>
         ensures { result ≡ place_named self.now.nets (word_at self.now.words name) }
     {
-        let noted = self.places.get(name as usize).copied();
-        match noted.flatten() {
+        match self.noted_at(name) {
             Some(place) => Some(place as usize),
             None => self.scan(self.words.name(name)),
         }

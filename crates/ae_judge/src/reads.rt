@@ -5,7 +5,7 @@ ghost use Rattle.ae_vmodule.specs.Roots.{numbered, numbered_stmt};
 ghost use Rattle.ae_vmodule.specs.View.{drive_tree, expr_tree, item_tree, stmt_tree, word_at};
 ghost use Rattle.ae_judge.specs.Names.{drive_reads, item_reads, item_targets, names_in, stmt_reads, stmt_targets, target_of};
 
-use ae_vmodule::{Drive, Expr, Root, Stmt, StmtRoot, VItem};
+use ae_vmodule::{Drive, Expr, ItemParts, Root, Stmt, StmtRoot, VItem};
 use std::alloc::{AllocError, Global};
 
 /// Puts a name behind others.
@@ -126,10 +126,10 @@ fn push_drive_targets(drives: &[Drive], into: &mut Vec<u32>) -> Result<(), Alloc
 pub fn push_item_reads(item: &VItem, into: &mut Vec<u32>) -> Result<(), AllocError>
     ensures { (ws : List (List ℕ)) → OnOk result (map (word_at ws) into.new.items ≡ map (word_at ws) into.old.items ++ item_reads (item_tree ws item.now)) }
 {
-    match item {
-        VItem::Nets(drives) => push_drive_reads(drives, into),
-        VItem::Assign(drives) => push_drive_reads(drives, into),
-        VItem::Always { body, .. } => push_stmt_reads(body.stmt(), into),
+    match item.parts() {
+        ItemParts::Nets(drives) => push_drive_reads(drives, into),
+        ItemParts::Assign(drives) => push_drive_reads(drives, into),
+        ItemParts::Always { body, .. } => push_stmt_reads(body, into),
     }
 }
 
@@ -137,10 +137,10 @@ pub fn push_item_reads(item: &VItem, into: &mut Vec<u32>) -> Result<(), AllocErr
 pub fn push_item_targets(item: &VItem, into: &mut Vec<u32>) -> Result<(), AllocError>
     ensures { (ws : List (List ℕ)) → OnOk result (map (word_at ws) into.new.items ≡ map (word_at ws) into.old.items ++ item_targets (item_tree ws item.now)) }
 {
-    match item {
-        VItem::Nets(drives) => push_drive_targets(drives, into),
-        VItem::Assign(drives) => push_drive_targets(drives, into),
-        VItem::Always { body, .. } => push_stmt_targets(body.stmt(), into),
+    match item.parts() {
+        ItemParts::Nets(drives) => push_drive_targets(drives, into),
+        ItemParts::Assign(drives) => push_drive_targets(drives, into),
+        ItemParts::Always { body, .. } => push_stmt_targets(body, into),
     }
 }
 

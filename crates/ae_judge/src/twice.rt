@@ -10,7 +10,7 @@ ghost use Rattle.ae_judge.specs.Judging.{first_from, with_names, is_driven, repe
 use crate::names::{Names, is_input_kind};
 use crate::reads::item_targets;
 use crate::seen::Seen;
-use ae_vmodule::{VItem, VNet};
+use ae_vmodule::{ItemParts, VItem, VNet};
 use std::alloc::{AllocError, Global};
 
 fn is_driven(driven: &Seen<'_>, name: u32) -> bool
@@ -35,10 +35,10 @@ fn any_driven(driven: &Seen<'_>, targets: &[u32]) -> bool
 fn may_repeat(names: &Names<'_>, item: &VItem, name: u32) -> bool
     ensures { result ≡ may_repeat names.now.nets (item_tree names.now.words item.now) (word_at names.now.words name) }
 {
-    match item {
-        VItem::Nets(_) => false,
-        VItem::Assign(_) => false,
-        VItem::Always { .. } => names.is_register(name),
+    match item.parts() {
+        ItemParts::Nets(_) => false,
+        ItemParts::Assign(_) => false,
+        ItemParts::Always { .. } => names.is_register(name),
     }
 }
 

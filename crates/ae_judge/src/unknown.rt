@@ -11,7 +11,7 @@ ghost use Rattle.ae_judge.specs.Judging.{item_clock, first_from, is_declared_bef
 use crate::names::Names;
 use crate::places::Places;
 use crate::reads::{push_item_reads, push_item_targets, push_name};
-use ae_vmodule::{Drive, Expr, Symbol, VItem};
+use ae_vmodule::{Drive, Expr, ItemParts, Symbol, VItem};
 use std::alloc::{AllocError, Global};
 
 fn is_declared_before(names: &Names<'_>, number: u32, name: u32) -> bool
@@ -116,8 +116,8 @@ fn named_outside(alloc: Global, item: &VItem) -> Result<Vec<u32>, AllocError>
     ensures { (ws : List (List ℕ)) → IfOk result (λ v. map (word_at ws) v.items ≡ (item_clock (item_tree ws item.now) ++ item_targets (item_tree ws item.now)) ++ item_reads (item_tree ws item.now)) }
 {
     let mut used = Vec::new(alloc);
-    if let VItem::Always { clock, .. } = item {
-        push_name(*clock, &mut used)?;
+    if let ItemParts::Always { clock, .. } = item.parts() {
+        push_name(clock, &mut used)?;
     }
     push_item_targets(item, &mut used)?;
     push_item_reads(item, &mut used)?;
@@ -133,7 +133,7 @@ fn uses_unknown(
 ) -> Result<bool, AllocError>
     ensures { IfOk result (λ b. b ≡ uses_unknown names.now.nets number (item_tree names.now.words item.now)) }
 {
-    if let VItem::Nets(drives) = item {
+    if let ItemParts::Nets(drives) = item.parts() {
         return drives_unknown(alloc, names, number, drives);
     }
     let none = Places::new(alloc, names.keyed());

@@ -8,7 +8,7 @@ ghost use Rattle.ae_judge.specs.Weight.{expr_weight, stmt_weight, drive_weight, 
 ghost use Rattle.ae_judge.specs.Faults.{IsLarge};
 
 use crate::kinds::is_number;
-use ae_vmodule::{BinOp, Drive, Expr, Stmt, StmtRoot, Symbol, VItem, VModule};
+use ae_vmodule::{BinOp, Drive, Expr, ItemParts, Stmt, StmtRoot, Symbol, VItem, VModule};
 
 /// The least weight of a module that is not built. Greater weights are not told apart from it.
 const LARGE: u32 = 10_000_001;
@@ -134,10 +134,10 @@ fn drives_weight(drives: &[Drive]) -> u32
 fn item_weight(item: &VItem) -> u32
     ensures { (ws : List (List ℕ)) → result ≡ min (item_weight (item_tree ws item.now)) 10000001 }
 {
-    match item {
-        VItem::Nets(drives) => drives_weight(drives),
-        VItem::Assign(drives) => drives_weight(drives),
-        VItem::Always { body, .. } => stmt_weight(0, body.stmt()),
+    match item.parts() {
+        ItemParts::Nets(drives) => drives_weight(drives),
+        ItemParts::Assign(drives) => drives_weight(drives),
+        ItemParts::Always { body, .. } => stmt_weight(0, body),
     }
 }
 

@@ -12,7 +12,7 @@ ghost use Rattle.ae_vmodule.specs.ModuleTree.{concat_more};
 ghost use Rattle.ae_judge.specs.Judging.{first_from, first_too_large};
 
 use crate::names::{Names, depth_of_kind};
-use ae_vmodule::{BinOp, Drive, Expr, Root, Stmt, StmtRoot, Symbol, UnOp, VItem, VNet};
+use ae_vmodule::{BinOp, Drive, Expr, ItemParts, Root, Stmt, StmtRoot, Symbol, UnOp, VItem, VNet};
 
 /// The own width of a prefix whose operand has this.
 fn unary_width(op: UnOp, a: u32) -> u32
@@ -282,10 +282,10 @@ pub fn first_too_large(names: &Names<'_>, nets: &[VNet]) -> Option<u32>
 fn is_too_wide_in_item(names: &Names<'_>, item: &VItem) -> bool
     ensures { result ≡ is_too_wide_in_item names.now.nets (item_tree names.now.words item.now) }
 {
-    match item {
-        VItem::Nets(drives) => any_too_wide_drive(names, drives),
-        VItem::Assign(drives) => any_too_wide_drive(names, drives),
-        VItem::Always { body, .. } => is_too_wide_in_stmt(names, body.stmt()),
+    match item.parts() {
+        ItemParts::Nets(drives) => any_too_wide_drive(names, drives),
+        ItemParts::Assign(drives) => any_too_wide_drive(names, drives),
+        ItemParts::Always { body, .. } => is_too_wide_in_stmt(names, body),
     }
 }
 

@@ -16,7 +16,7 @@ ghost use Rattle.ae_judge.specs.Table.{table_of};
 use crate::places::place_of;
 use crate::sort::{OrderFault, order};
 use ae_judge::{ElabFault, Names, is_large};
-use ae_vmodule::{Drive, Expr, Symbol, VItem, VModule};
+use ae_vmodule::{Drive, Expr, ItemParts, Symbol, VItem, VModule};
 use std::alloc::{AllocError, Global};
 
 /// Notes the value of each equation at the place of its name.
@@ -108,10 +108,10 @@ fn note_item<'m>(names: &Names<'_>, item: &'m VItem, values: &mut Vec<Option<Exp
     ensures long { length values.new.items ≡ length names.now.nets }
     ensures noted { map (value_tree names.now.words) values.new.items ≡ noted names.now.nets (map (value_tree names.now.words) values.old.items) (drives_of (item_tree names.now.words item.now)) }
 {
-    match item {
-        VItem::Nets(drives) => note_drives(names, drives, values),
-        VItem::Assign(drives) => note_drives(names, drives, values),
-        VItem::Always { .. } => (),
+    match item.parts() {
+        ItemParts::Nets(drives) => note_drives(names, drives, values),
+        ItemParts::Assign(drives) => note_drives(names, drives, values),
+        ItemParts::Always { .. } => (),
     }
 }
 
@@ -145,23 +145,28 @@ pub fn drive_values<'m>(
     Ok(values)
 }
 
-/// The nets in an order in which each wire stands behind all that its equation reads, or a net that reaches itself. In
-/// time linear in the text.
-fn wire_order(
-    alloc: Global,
-    names: &Names<'_>,
-    m: &VModule<'_>,
-    values: &[Option<Expr<'_>>],
-) -> Result<Vec<u32>, OrderFault>
+/// The graph of what the wires read. The values that it is made of are not in memory beside what comes after.
+fn wire_graph(alloc: Global, names: &Names<'_>, m: &VModule<'_>) -> Result<Graph, AllocError>
     requires names { names.now ≡ table_of m.now.words m.now.nets.items }
     requires shape { IsShapely (module_tree m.now) }
     requires regular { IsRegular (module_tree m.now) }
-    requires values { map (value_tree names.now.words) values.now ≡ values_of (module_tree m.now) }
+    ensures { IfOk result (λ g. IsFlat (module_tree m.now).nets (values_of (module_tree m.now)) (length (values_of (module_tree m.now)) + 1) g.starts.items g.targets.items) }
+{
+    let values = drive_values(alloc, names, m)?;
+    graph_of(alloc, names, &values)
+}
+
+/// The nets in an order in which each wire stands behind all that its equation reads, or a net that reaches itself. In
+/// time linear in the text.
+fn wire_order(alloc: Global, names: &Names<'_>, m: &VModule<'_>) -> Result<Vec<u32>, OrderFault>
+    requires names { names.now ≡ table_of m.now.words m.now.nets.items }
+    requires shape { IsShapely (module_tree m.now) }
+    requires regular { IsRegular (module_tree m.now) }
     ensures order { IfOk result (λ order. IsWireOrder (module_tree m.now) order.items) }
     ensures no_loop { OnOk result (Never (HasLoop (module_tree m.now))) }
     ensures fault { IfErr result (IsLoopFault (module_tree m.now)) }
 {
-    match graph_of(alloc, names, values) {
+    match wire_graph(alloc, names, m) {
         Ok(graph) => order(alloc, &graph.starts, &graph.targets),
         Err(_) => Err(OrderFault::Memory),
     }
@@ -172,17 +177,15 @@ pub fn sorted_wires(
     alloc: Global,
     names: &Names<'_>,
     m: &VModule<'_>,
-    values: &[Option<Expr<'_>>],
 ) -> Result<Vec<u32>, ElabFault>
     requires names { names.now ≡ table_of m.now.words m.now.nets.items }
     requires shape { IsShapely (module_tree m.now) }
     requires regular { IsRegular (module_tree m.now) }
-    requires values { map (value_tree names.now.words) values.now ≡ values_of (module_tree m.now) }
     ensures sorted { IfOk result (λ order. IsWireOrder (module_tree m.now) order.items) }
     ensures well_formed { OnOk result (IsWellFormed (module_tree m.now)) }
     ensures fault { IfErr result (λ f. IsFault (module_tree m.now) f) }
 {
-    let order = match wire_order(alloc, names, m, values) {
+    let order = match wire_order(alloc, names, m) {
         Ok(order) => order,
         Err(OrderFault::Loop(net)) => return Err(ElabFault::Loop { net }),
         Err(OrderFault::Memory) => return Err(ElabFault::Memory),

@@ -1,9 +1,9 @@
 -- Names that are put behind others.
-use Rattle.std.proofs.Common.{◌≡◌, ℕ, ◌+◌, not, List, [], ◌∷◌, ◌++◌, Bool, true, false, Some, None, refl, sym, ap, ◌∙◌, Bor, append-nil}
-use Rattle.std.specs.Prelude.{slice_get, option_map, bytes_eq, position, nat_lt, if◌then◌else◌}
-use Rattle.std.specs.List.{AllByRecursion, IsDistinct, list_any, prefix_len}
+use Rattle.std.proofs.Common.{◌≡◌, ℕ, List, [], ◌∷◌, ◌++◌, Bool, true, false, Some, sym, ap, ◌∙◌, Bor, append-nil}
+use Rattle.std.specs.Prelude.{slice_get, option_map, bytes_eq, if◌then◌else◌}
+use Rattle.std.specs.List.{AllByRecursion, IsDistinct, list_any}
 use Rattle.std.proofs.lemmas.Option.{slice_get-map}
-use Rattle.std.proofs.lemmas.List.{length-map, map-append}
+use Rattle.std.proofs.lemmas.List.{map-append}
 use Rattle.std.proofs.lemmas.Slice.Eq.{bytes_eq-Decides}
 use Rattle.indexmap.specs.IndexSet.{insert_key}
 use Rattle.ae_vmodule.specs.Words.{words_of, Extends}
@@ -20,15 +20,6 @@ pub number_there : (ks : List (Bor (List ℕ))) (w k : Bor (List ℕ)) (i : ℕ)
     → slice_get (words_of ks) i ≡ Some w.now
 number_there ks w k i there same =
     slice_get-map _ ks i ∙ ap (option_map (λ (x : Bor (List ℕ)). x.now)) there ∙ ap Some (sym ((bytes_eq-Decides w.now k.now).0 same))
-
-prefix_words : (test : List ℕ → Bool) (ks : List (Bor (List ℕ))) → prefix_len test (words_of ks) ≡ prefix_len (λ (k : Bor (List ℕ)). test k.now) ks
-prefix_words test [] = refl
-prefix_words test (k ∷ ks) = ap (λ n. if test k.now then 1 + n else 0) (prefix_words test ks)
-
-pub position_words : (test : List ℕ → Bool) (ks : List (Bor (List ℕ))) → position test (words_of ks) ≡ position (λ (k : Bor (List ℕ)). test k.now) ks
-position_words test ks =
-    let same = prefix_words (λ w. not (test w)) ks in
-    λ i. if nat_lt (same i) (length-map ks (λ (k : Bor (List ℕ)). k.now) i) then Some (same i) else None
 
 all_words : (w : List ℕ) (ks : List (Bor (List ℕ))) → AllByRecursion (λ (k : Bor (List ℕ)). bytes_eq w k.now ≡ false) ks
     → AllByRecursion (λ v. bytes_eq w v ≡ false) (words_of ks)

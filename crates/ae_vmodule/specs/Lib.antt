@@ -1,5 +1,7 @@
 pub mod ModuleTree
 pub mod Numbered
+pub mod Listed
+pub mod Items
 pub mod Postfix
 pub mod Roots
 pub mod Stacks

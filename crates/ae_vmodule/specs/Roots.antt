@@ -1,6 +1,7 @@
 -- An expression and a statement by their outermost parts.
 use Rattle.ae_vmodule.specs.Numbered as n
 use Rattle.ae_vmodule.specs.Numbered.{NumberedExpr, NumberedStmt}
+use Rattle.ae_vmodule.specs.Listed.{listed}
 use Rattle.ae_vmodule.specs.Postfix.{decoded, decoded_stmt}
 use Rattle.ae_vmodule.specs.declared.symbols.Code.{Code}
 use Rattle.ae_vmodule.specs.declared.symbols.StmtCode.{StmtCode}
@@ -12,10 +13,10 @@ use Rattle.ae_vmodule.specs.declared.symbols.StmtRoot as s
 use Rattle.ae_vmodule.specs.declared.symbols.StmtRoot.TheVariants.{Set, Put, When, Either, End, Then}
 
 abbrev pub code_expr : Code → NumberedExpr
-code_expr c = decoded c.symbols.items
+code_expr c = decoded (listed c.symbols)
 
 abbrev pub code_stmt : StmtCode → NumberedStmt
-code_stmt c = decoded_stmt c.symbols.items
+code_stmt c = decoded_stmt (listed c.symbols)
 
 abbrev pub numbered : Expr → NumberedExpr
 numbered e = decoded e.symbols.now

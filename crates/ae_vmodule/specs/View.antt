@@ -4,11 +4,12 @@ use Rattle.ae_vmodule.specs.ModuleTree as m
 use Rattle.ae_vmodule.specs.ModuleTree.{ExprTree, StmtTree, NetTree, DriveTree, ItemTree, ModuleTree}
 use Rattle.ae_vmodule.specs.Numbered as n
 use Rattle.ae_vmodule.specs.Numbered.{NumberedExpr, NumberedStmt}
-use Rattle.ae_vmodule.specs.Roots.{code_expr, code_stmt}
+use Rattle.ae_vmodule.specs.Items.{nets, assigns, always}
+use Rattle.ae_vmodule.specs.Postfix.{decoded_stmt}
+use Rattle.ae_vmodule.specs.Roots.{code_expr}
 use Rattle.ae_vmodule.specs.declared.module.VNet.{VNet}
 use Rattle.ae_vmodule.specs.declared.module.Drive.{Drive}
-use Rattle.ae_vmodule.specs.declared.module.VItem.{VItem}
-use Rattle.ae_vmodule.specs.declared.module.VItem.TheVariants.{Nets, Assign, Always}
+use Rattle.ae_vmodule.specs.declared.items.VItem.{VItem}
 use Rattle.ae_vmodule.specs.declared.module.VModule.{VModule}
 
 -- the name of a number
@@ -44,9 +45,9 @@ abbrev pub drive_tree : List (List ℕ) → Drive → DriveTree
 drive_tree ws d = record { name = word_at ws d.name; value = expr_tree ws (code_expr d.value) }
 
 abbrev pub item_tree : List (List ℕ) → VItem → ItemTree
-item_tree ws (Nets drives) = m.nets (map (drive_tree ws) drives.items)
-item_tree ws (Assign drives) = m.assigns (map (drive_tree ws) drives.items)
-item_tree ws (Always clock body) = m.always (word_at ws clock) (stmt_tree ws (code_stmt body))
+item_tree ws (nets drives) = m.nets (map (drive_tree ws) drives)
+item_tree ws (assigns drives) = m.assigns (map (drive_tree ws) drives)
+item_tree ws (always clock body) = m.always (word_at ws clock) (stmt_tree ws (decoded_stmt body))
 
 abbrev pub module_tree : VModule → ModuleTree
 module_tree v =

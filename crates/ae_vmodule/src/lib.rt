@@ -1,13 +1,15 @@
 //! Modules of the Verilog profile: declared names, items, and expressions and statements in postfix code.
 #![tactic(auto)]
 
+mod items;
 mod module;
 mod roots;
 mod stack;
 mod symbols;
 mod words;
 
-pub use module::{BinOp, Drive, NetKind, UnOp, VItem, VModule, VNet};
+pub use items::{ItemParts, VItem};
+pub use module::{BinOp, Drive, NetKind, UnOp, VModule, VNet};
 pub use stack::Stack;
 pub use symbols::{Code, Expr, Root, Stmt, StmtCode, StmtRoot, Symbol};
-pub use words::Words;
+pub use words::{WordList, Words};

@@ -1,13 +1,14 @@
 // The parts of a module.
 
-use crate::symbols::{Code, StmtCode};
-use crate::words::Words;
+use crate::items::VItem;
+use crate::symbols::Code;
+use crate::words::WordList;
 
 /// A module of the profile: its declared names in text order, ports first, and its items. Names stand by their numbers, those of
 /// the different names of its text.
 #[derive(Drop)]
 pub struct VModule<'a> {
-    pub words: Words<'a>,
+    pub words: WordList<'a>,
     pub name: u32,
     pub nets: Vec<VNet>,
     pub items: Vec<VItem>,
@@ -34,14 +35,6 @@ pub enum NetKind {
     OutReg,
     /// A memory of so many words.
     Memory(u32),
-}
-
-#[derive(Debug, Drop)]
-pub enum VItem {
-    /// A declaration: the names that it gives a value.
-    Nets(Vec<Drive>),
-    Assign(Vec<Drive>),
-    Always { clock: u32, body: StmtCode },
 }
 
 #[derive(Debug, Drop)]

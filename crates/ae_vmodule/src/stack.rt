@@ -4,10 +4,11 @@ ghost use Rattle.std.specs.Prelude.{◌≡◌, ◌<◌, ◌≤◌, ◌+◌, ◌^
 ghost use Rattle.ae_vmodule.specs.Numbered.{NumberedExpr, NumberedStmt, Piece, expr, stmt, name, constant, place, part, index, unary, binary, choice, concat_one, concat_more, set, put, when, either, block_end, block_more};
 ghost use Rattle.ae_vmodule.specs.Stacks.{HasChoice, HasEither, HasExpr, HasExprs, HasStmt, HasStmts, HasWhen, IsLeaf, IsOperator, IsStack, size_of};
 ghost use Rattle.ae_vmodule.specs.Roots.{code_expr, code_stmt};
+ghost use Rattle.ae_vmodule.specs.Listed.{listed};
 ghost use Rattle.ae_vmodule.specs.Postfix.{coded_piece, step};
 
 use crate::module::{BinOp, UnOp};
-use crate::symbols::{Code, StmtCode, Symbol};
+use crate::symbols::{Code, StmtCode, Symbol, Symbols};
 use std::alloc::{AllocError, Global};
 
 /// Expressions and statements in the making, one behind the other in postfix code. What cannot be added, for want of memory,
@@ -103,16 +104,14 @@ impl Stack {
     }
 
     /// The symbols of the piece on top.
-    fn top(&self) -> Result<Vec<Symbol>, AllocError>
+    fn top(&self) -> Result<Symbols, AllocError>
         requires some { 1 ≤ length (held self.now) }
-        ensures { IfOk result (λ v. (p : Piece) (below : List Piece) → held self.now ≡ p ∷ below → v.items ≡ coded_piece p) }
+        ensures { IfOk result (λ v. (p : Piece) (below : List Piece) → held self.now ≡ p ∷ below → listed v ≡ coded_piece p) }
     {
         let start = self.starts[self.starts.len() - 1] as usize;
         let alloc = *self.symbols.allocator();
         let (_, top) = self.symbols.split_at(start);
-        let mut symbols = Vec::with_capacity(alloc, top.len())?;
-        symbols.extend_from_slice(top)?;
-        Ok(symbols)
+        Symbols::of(alloc, top)
     }
 
     /// A name.

@@ -1,9 +1,12 @@
 // Expressions in postfix code: the symbols of the operands, and the operator behind them.
 
-ghost use Rattle.std.specs.Prelude.{◌<◌};
+ghost use Rattle.std.specs.Prelude.{◌≡◌, ◌<◌, IfOk};
+ghost use Rattle.ae_vmodule.specs.Listed.{listed};
 ghost use Rattle.ae_vmodule.specs.Postfix.{IsCode, IsStmtCode};
 
 use crate::module::{BinOp, UnOp};
+use std::alloc::{AllocError, Global};
+use std::slice::from_ref;
 
 /// A symbol of postfix code. Names stand by their numbers.
 #[derive(Clone, Copy, Debug)]
@@ -45,18 +48,26 @@ pub enum Symbol {
     Then(u32),
 }
 
+/// One symbol or several. One alone takes no memory of its own, and several stand behind a box, so that this is as small as it can be:
+/// most values of a large module are a name.
+#[derive(Debug, Drop)]
+pub(crate) enum Symbols {
+    One(Symbol),
+    Many(Box<Vec<Symbol>>),
+}
+
 /// The symbols of an expression.
 #[derive(Debug, Drop)]
 pub struct Code {
-    pub(crate) symbols: Vec<Symbol>,
-    ghost code: { IsCode symbols.items },
+    pub(crate) symbols: Symbols,
+    ghost code: { IsCode (listed symbols) },
 }
 
 /// The symbols of a statement.
 #[derive(Debug, Drop)]
 pub struct StmtCode {
-    pub(crate) symbols: Vec<Symbol>,
-    ghost code: { IsStmtCode symbols.items },
+    pub(crate) symbols: Symbols,
+    ghost code: { IsStmtCode (listed symbols) },
 }
 
 /// An expression, in postfix code.
@@ -112,4 +123,29 @@ pub enum StmtRoot<'m> {
     End,
     /// A statement and those behind it.
     Then(Stmt<'m>, Stmt<'m>),
+}
+
+impl Symbols {
+    /// A copy of symbols.
+    pub(crate) fn of(alloc: Global, symbols: &[Symbol]) -> Result<Symbols, AllocError>
+        ensures { IfOk result (λ ss. listed ss ≡ symbols.now) }
+    {
+        match symbols {
+            [symbol] => Ok(Symbols::One(*symbol)),
+            _ => {
+                let mut copies = Vec::with_capacity(alloc, symbols.len())?;
+                copies.extend_from_slice(symbols)?;
+                Ok(Symbols::Many(Box::new(alloc, copies)?))
+            }
+        }
+    }
+
+    pub(crate) fn as_slice(&self) -> &[Symbol]
+        ensures { result.now ≡ listed self.now }
+    {
+        match self {
+            Symbols::One(symbol) => from_ref(symbol),
+            Symbols::Many(symbols) => symbols.as_slice(),
+        }
+    }
 }

@@ -1,6 +1,6 @@
 // The different names of a text, by numbers.
 
-ghost use Rattle.std.specs.Prelude.{◌≡◌, ◌<◌, ◌≤◌, ◌+◌, ◌^◌, [], bytes_eq, length, position, slice_get, Some, IfOk};
+ghost use Rattle.std.specs.Prelude.{◌≡◌, ◌<◌, ◌≤◌, ◌+◌, ◌^◌, [], bytes_eq, length, slice_get, Some, IfOk};
 ghost use Rattle.std.specs.List.{IsDistinct};
 ghost use Rattle.ae_vmodule.specs.View.{word_at};
 ghost use Rattle.ae_vmodule.specs.Words.{Extends};
@@ -46,43 +46,66 @@ impl<'a> Words<'a> {
         Ok(number as u32)
     }
 
+    /// All names, without what finds a name among them: that takes as much memory as the names themselves.
+    pub fn listed(self) -> Result<WordList<'a>, AllocError>
+        ensures { IfOk result (λ list. list ≡ self.entry) }
+    {
+        let numbered = self.numbers.as_slice();
+        let mut words = Vec::with_capacity(*self.numbers.allocator(), numbered.len())?;
+        words.extend_from_slice(numbered)?;
+        Ok(WordList {
+            words,
+            keyed: *self.numbers.hasher(),
+        })
+    }
+}
+
+/// The different names of a text that was read, by their numbers. They are borrowed from the text.
+#[derive(Drop)]
+pub struct WordList<'a> {
+    words: Vec<&'a str>,
+    keyed: Keyed,
+}
+
+impl<'a> Model for WordList<'a> {
+    ghost use Rattle.std.specs.List.{IsDistinct};
+    ghost use Rattle.std.specs.Prelude.{List, ℕ, bytes_eq};
+    ghost use Rattle.ae_vmodule.specs.Words.{words_of};
+
+    ghost Value = { List (List ℕ) };
+
+    ghost view = { λ w. words_of w.words.items };
+
+    ghost invariant = { λ w. IsDistinct bytes_eq (words_of w.words.items) };
+}
+
+impl<'a> WordList<'a> {
     /// No two of them are equal.
     pub fn apart(&self)
         ensures { IsDistinct bytes_eq self.now }
     {
-        let _len = self.numbers.len();
+        let _len = self.words.len();
     }
 
-    /// How they are hashed.
+    /// How names of the text are hashed.
     pub fn keyed(&self) -> Keyed {
-        *self.numbers.hasher()
+        self.keyed
     }
 
     /// How many names there are.
     pub fn len(&self) -> usize
         ensures { result ≡ length self.now }
     {
-        self.numbers.len()
+        self.words.len()
     }
 
     /// The name of a number; of one that no name has it is empty.
     pub fn name(&self, number: u32) -> &'a str
         ensures { result.now ≡ word_at self.now number }
     {
-        match self.numbers.get_index(number as usize) {
+        match self.words.get(number as usize) {
             Some(word) => *word,
             None => "",
-        }
-    }
-
-    /// The number of a name, if it is one of these.
-    pub fn find(&self, word: &str) -> Option<u32>
-        requires few { length self.now ≤ 2 ^ 32 }
-        ensures { result ≡ position (bytes_eq word.now) self.now }
-    {
-        match self.numbers.get_index_of(word) {
-            Some(number) => Some(number as u32),
-            None => None,
         }
     }
 }

@@ -13,7 +13,7 @@ use Rattle.ae_vread.specs.Read.{Fails}
 use Rattle.ae_vread.specs.declared.reading.ReadFault.{ReadFault}
 use Rattle.ae_vread.specs.declared.reading.ReadFault.TheVariants.{Syntax}
 use Rattle.ae_vmodule.specs.declared.module.VNet.{VNet}
-use Rattle.ae_vmodule.specs.declared.module.VItem.{VItem}
+use Rattle.ae_vmodule.specs.declared.items.VItem.{VItem}
 use Rattle.ae_vmodule.specs.declared.module.VModule.{VModule}
 use Rattle.ae_vread.specs.declared.reading.Reader.{Reader}
 use Rattle.ae_vread.proofs.Meanings.{no_more, extends_by, extends_same}

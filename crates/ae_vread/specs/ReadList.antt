@@ -7,7 +7,7 @@ use Rattle.ae_vread.specs.Read.{Fails, net_of}
 use Rattle.ae_vread.specs.ItemReading.{Entries, HeaderFound, ItemFound}
 use Rattle.ae_vmodule.specs.View.{net_tree, item_tree}
 use Rattle.ae_vmodule.specs.declared.module.VNet.{VNet}
-use Rattle.ae_vmodule.specs.declared.module.VItem.{VItem}
+use Rattle.ae_vmodule.specs.declared.items.VItem.{VItem}
 use Rattle.ae_vmodule.specs.declared.module.Drive.{Drive}
 use Rattle.ae_vmodule.specs.declared.module.NetKind.TheVariants.{Wire}
 use Rattle.ae_vread.specs.declared.reading.Reader.{Reader}

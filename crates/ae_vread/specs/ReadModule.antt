@@ -7,7 +7,7 @@ use Rattle.ae_vread.specs.ItemReading.{Held, TreeFault, HeaderFault, ItemFault}
 use Rattle.ae_vmodule.specs.View.{net_tree, item_tree, module_tree}
 use Rattle.ae_vmodule.specs.Words.{Extends}
 use Rattle.ae_vmodule.specs.declared.module.VNet.{VNet}
-use Rattle.ae_vmodule.specs.declared.module.VItem.{VItem}
+use Rattle.ae_vmodule.specs.declared.items.VItem.{VItem}
 use Rattle.ae_vmodule.specs.declared.module.VModule.{VModule}
 use Rattle.ae_vread.specs.declared.reading.Reader.{Reader}
 use Rattle.ae_vread.specs.declared.reader.VFault.{VFault}

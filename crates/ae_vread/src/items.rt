@@ -55,7 +55,7 @@ impl Reader<'_> {
         self.drive_list(&mut drives)?;
         self.want_mark(Sign::Semicolon)?;
         drive_nets(nets, &drives, high, item)?;
-        Ok(VItem::Nets(drives))
+        Ok(VItem::nets(drives))
     }
 
     /// Names of a declaration, up to its semicolon.
@@ -72,7 +72,7 @@ impl Reader<'_> {
     {
         self.net_list(nets, high, NetKind::Wire, item)?;
         self.want_mark(Sign::Semicolon)?;
-        Ok(VItem::Nets(Vec::new(alloc)))
+        Ok(VItem::nets(Vec::new(alloc)))
     }
 
     /// Behind `wire`, a declaration.
@@ -107,7 +107,7 @@ impl Reader<'_> {
         let high = self.range()?;
         self.reg_list(nets, high, item)?;
         self.want_mark(Sign::Semicolon)?;
-        Ok(VItem::Nets(Vec::new(alloc)))
+        Ok(VItem::nets(Vec::new(alloc)))
     }
 
     /// Behind `assign`, its drives.
@@ -119,7 +119,7 @@ impl Reader<'_> {
         let mut drives = Vec::with_capacity(alloc, 1)?;
         self.drive_list(&mut drives)?;
         self.want_mark(Sign::Semicolon)?;
-        Ok(VItem::Assign(drives))
+        Ok(VItem::assigns(drives))
     }
 
     /// The clock of an `always` item, in its parentheses.
@@ -146,7 +146,7 @@ impl Reader<'_> {
         let clock = self.clock_from()?;
         self.whole_statement()?;
         let body = self.stack.take_stmt()?;
-        Ok(VItem::Always { clock, body })
+        Ok(VItem::always(clock, body))
     }
 
     /// The item with this number; what it declares goes behind the nets.

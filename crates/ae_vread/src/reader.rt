@@ -94,8 +94,9 @@ fn read_module<'a>(alloc: Global, start: Reader<'a>) -> Result<VModule<'a>, VFau
     match reader.header(&mut nets) {
         Ok(name) => {
             let items = reader.items(alloc, most, &mut nets)?;
+            let words = reader.words.listed()?;
             Ok(VModule {
-                words: reader.words,
+                words,
                 name,
                 nets,
                 items,

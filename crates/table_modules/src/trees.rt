@@ -1,6 +1,6 @@
 // Modules as trees, with their names.
 
-use ae_vmodule::{Drive, Expr, Root, Stmt, StmtRoot, VItem, VModule, Words};
+use ae_vmodule::{Drive, Expr, ItemParts, Root, Stmt, StmtRoot, VItem, VModule, WordList};
 use ae_vtoken::Tokens;
 use std::alloc::{AllocError, Global};
 
@@ -10,7 +10,7 @@ fn push_comma(out: &mut String, turn: usize) -> Result<(), AllocError> {
 }
 
 #[cycle(exprs)]
-fn push_expr(out: &mut String, words: &Words<'_>, e: Expr<'_>) -> Result<(), AllocError> {
+fn push_expr(out: &mut String, words: &WordList<'_>, e: Expr<'_>) -> Result<(), AllocError> {
     match e.root() {
         Root::Name(name) => write!(out, "Name({:?})", words.name(name)),
         Root::Const { size, value, fits } => write!(
@@ -65,7 +65,7 @@ fn push_expr(out: &mut String, words: &Words<'_>, e: Expr<'_>) -> Result<(), All
 
 // The parts of a concatenation behind others.
 #[cycle(exprs)]
-fn push_parts(out: &mut String, words: &Words<'_>, parts: Expr<'_>) -> Result<(), AllocError> {
+fn push_parts(out: &mut String, words: &WordList<'_>, parts: Expr<'_>) -> Result<(), AllocError> {
     out.push_str(", ")?;
     match parts.root() {
         Root::One(a) => push_expr(out, words, a),
@@ -78,7 +78,7 @@ fn push_parts(out: &mut String, words: &Words<'_>, parts: Expr<'_>) -> Result<()
 }
 
 #[cycle(stmts)]
-fn push_stmt(out: &mut String, words: &Words<'_>, s: Stmt<'_>) -> Result<(), AllocError> {
+fn push_stmt(out: &mut String, words: &WordList<'_>, s: Stmt<'_>) -> Result<(), AllocError> {
     match s.root() {
         StmtRoot::Set { name, value } => {
             write!(out, "Set {{ name: {:?}, value: ", words.name(name))?;
@@ -120,7 +120,7 @@ fn push_stmt(out: &mut String, words: &Words<'_>, s: Stmt<'_>) -> Result<(), All
 
 // The statements of a block behind others.
 #[cycle(stmts)]
-fn push_stmts(out: &mut String, words: &Words<'_>, s: Stmt<'_>) -> Result<(), AllocError> {
+fn push_stmts(out: &mut String, words: &WordList<'_>, s: Stmt<'_>) -> Result<(), AllocError> {
     match s.root() {
         StmtRoot::End => Ok(()),
         StmtRoot::Then(first, rest) => {
@@ -135,7 +135,7 @@ fn push_stmts(out: &mut String, words: &Words<'_>, s: Stmt<'_>) -> Result<(), Al
     }
 }
 
-fn push_drives(out: &mut String, words: &Words<'_>, drives: &[Drive]) -> Result<(), AllocError> {
+fn push_drives(out: &mut String, words: &WordList<'_>, drives: &[Drive]) -> Result<(), AllocError> {
     for (turn, drive) in drives.iter().enumerate() {
         push_comma(out, turn)?;
         write!(out, "Drive {{ name: {:?}, value: ", words.name(drive.name))?;
@@ -145,21 +145,21 @@ fn push_drives(out: &mut String, words: &Words<'_>, drives: &[Drive]) -> Result<
     Ok(())
 }
 
-fn push_item(out: &mut String, words: &Words<'_>, item: &VItem) -> Result<(), AllocError> {
-    match item {
-        VItem::Nets(drives) => {
+fn push_item(out: &mut String, words: &WordList<'_>, item: &VItem) -> Result<(), AllocError> {
+    match item.parts() {
+        ItemParts::Nets(drives) => {
             out.push_str("Nets([")?;
             push_drives(out, words, drives)?;
             out.push_str("])")
         }
-        VItem::Assign(drives) => {
+        ItemParts::Assign(drives) => {
             out.push_str("Assign([")?;
             push_drives(out, words, drives)?;
             out.push_str("])")
         }
-        VItem::Always { clock, body } => {
-            write!(out, "Always {{ clock: {:?}, body: ", words.name(*clock))?;
-            push_stmt(out, words, body.stmt())?;
+        ItemParts::Always { clock, body } => {
+            write!(out, "Always {{ clock: {:?}, body: ", words.name(clock))?;
+            push_stmt(out, words, body)?;
             out.push_str(" }")
         }
     }

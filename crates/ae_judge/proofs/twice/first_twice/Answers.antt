@@ -1,6 +1,6 @@
 use Rattle.std.proofs.Common.{◌≡◌, ◌+◌, ◌∙◌, false, sym, ap, arith, get_or}
 use Rattle.ae_vmodule.specs.View.{item_tree}
-use Rattle.ae_vmodule.specs.declared.module.VItem.{VItem}
+use Rattle.ae_vmodule.specs.declared.items.VItem.{VItem}
 use Rattle.ae_judge.specs.Names.{item_targets}
 use Rattle.ae_judge.specs.Judging.{drives_twice, with_names}
 use Rattle.ae_judge.specs.Seen.{SeenNames}

@@ -2,7 +2,7 @@ use Rattle.std.proofs.Common.{rules, ◌≡◌, ◌∙◌, ap, length, map, List
 use Rattle.std.proofs.lemmas.List.{length-map}
 use Rattle.std.specs.Prelude.{min, sum_by}
 use Rattle.ae_vmodule.specs.View.{item_tree, net_tree}
-use Rattle.ae_vmodule.specs.declared.module.VItem.{VItem}
+use Rattle.ae_vmodule.specs.declared.items.VItem.{VItem}
 use Rattle.ae_judge.specs.Weight.{item_weight}
 use Rattle.ae_judge.proofs.weigh.is_large.Goals as goal
 

@@ -1,7 +1,7 @@
 use Rattle.std.proofs.Common.{◌∙◌, ap}
 use Rattle.std.specs.Prelude.{min}
 use Rattle.ae_vmodule.specs.View.{item_tree}
-use Rattle.ae_vmodule.specs.declared.module.VItem.{VItem}
+use Rattle.ae_vmodule.specs.declared.items.VItem.{VItem}
 use Rattle.ae_judge.specs.Weight.{item_weight}
 use Rattle.ae_judge.proofs.Weighing.{weight_next, weight_end}
 use Rattle.ae_judge.proofs.weigh.items_weight.Goals as goal

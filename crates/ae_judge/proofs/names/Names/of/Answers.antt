@@ -3,7 +3,7 @@ use Rattle.std.proofs.Common.{◌<◌, List, length, get_or, refl, sym, subst, �
 use Rattle.std.specs.Option.{option_or}
 use Rattle.std.proofs.lemmas.List.{length-map, take_all}
 use Rattle.ae_vmodule.specs.View.{net_tree, word_at}
-use Rattle.ae_judge.specs.Places.{AreNoted, Entry, Finds, with_place}
+use Rattle.ae_judge.specs.Places.{Entry, Finds, with_place}
 use Rattle.ae_judge.specs.Judging.{first_again}
 use Rattle.ae_judge.proofs.PlaceLemmas.{finds_none, finds_next, none_noted, places_found}
 use Rattle.ae_judge.proofs.Again.{IsNoted, noted_next, noted_all}
@@ -15,7 +15,7 @@ pub net-init : goal.net-init
 net-init c = (
   [],
   finds_none,
-  subst (λ ps. AreNoted c.args.words.now [] ps None) (sym c.in_ok-places.ensures) (none_noted c.args.words.now c.len.result c.len.ensures),
+  rw (c.none-empty.ensures, c.in_ok-places.ensures) (none_noted c.args.words.now c.len.result c.len.ensures),
   refl,
 )
 

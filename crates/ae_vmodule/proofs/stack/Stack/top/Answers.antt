@@ -1,4 +1,5 @@
-use Rattle.std.proofs.Common.{◌≡◌, ◌+◌, ◌-◌, length, drop, ◌++◌, ap, ◌∙◌, arith}
+use Rattle.std.proofs.Common.{◌≡◌, ◌+◌, ◌-◌, length, drop, ap, ◌∙◌, arith}
+use Rattle.std.proofs.lemmas.Result.{IfOk-weaker}
 use Rattle.ae_vmodule.specs.Held.{held}
 use Rattle.ae_vmodule.proofs.StackLaws.{many_starts, taken, some_top}
 use Rattle.ae_vmodule.proofs.stack.Stack.top.Goals as goal
@@ -23,10 +24,10 @@ split_at-requires c =
     omega (arith, t.within, ap length c.deref.ensures.value)
 
 pub returns : goal.returns
-returns c p below is =
+returns c =
     let s = c.args.self.now in
     let many = many_starts s.symbols.items s.starts.items s.stack in
     let at : c.len.result - 1 + 1 ≡ length s.starts.items = omega (arith, c.len.ensures, s.starts.ok, many, c.requires.some) in
+    IfOk-weaker c.of.result _ _ (λ v e p below is.
     let t = taken s.symbols.items s.starts.items p below c.index.result.now (c.len.result - 1) c.index.result.now s.stack is at c.index.ensures in
-    c.in_ok-extend_from_slice.ensures.items ∙ ap (λ xs. xs ++ c.split_at.result.1.now) c.in_ok-symbols.ensures.items
-    ∙ c.split_at.ensures.back ∙ ap (drop c.index.result.now) c.deref.ensures.value ∙ t.back
+    e ∙ c.split_at.ensures.back ∙ ap (drop c.index.result.now) c.deref.ensures.value ∙ t.back) c.of.ensures

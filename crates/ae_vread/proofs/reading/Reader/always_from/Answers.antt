@@ -1,7 +1,7 @@
 use Rattle.std.proofs.Common.{◌-◌, [], ap, ◌∙◌}
 use Rattle.ae_vtoken.specs.Ahead.{ahead}
 use Rattle.ae_vmodule.specs.ModuleTree.{always}
-use Rattle.ae_vmodule.specs.View.{net_tree, stmt_tree}
+use Rattle.ae_vmodule.specs.View.{item_tree, net_tree, stmt_tree}
 use Rattle.ae_vread.specs.ItemReading.{item_found}
 use Rattle.ae_vread.proofs.Meanings.{extends_by, named_kept}
 use Rattle.ae_vread.proofs.ItemSteps.{always_is, added_none}
@@ -15,5 +15,6 @@ returns-clause-read c others =
       item_found [] (always clock.0 x.0.tree) x.0.rest,
       always_is (ahead c.args.self.now.tokens) _ clock.0 x.0 clock.1 x.1,
       added_none net_tree others _ _ x.0.rest (extends_by _ _ _ c.in_ok-clock.ensures.words x.3) x.2.rest,
-      λ ws g. λ i. always (named_kept _ ws c.in_ok-clock.clock clock.0 clock.2 (extends_by _ _ _ x.3 g) i) ((ap (stmt_tree ws) body ∙ x.2.means ws g) i),
+      λ ws g. ap (item_tree ws) c.always.ensures ∙ λ i. always (named_kept _ ws c.in_ok-clock.clock clock.0 clock.2 (extends_by _ _ _ x.3 g) i)
+          ((ap (stmt_tree ws) body ∙ x.2.means ws g) i),
     )

@@ -2,7 +2,7 @@ use Rattle.std.proofs.Common.{◌-◌, [], sym, ap, ◌∙◌, map}
 use Rattle.ae_vtoken.specs.Ahead.{ahead}
 use Rattle.ae_vtoken.specs.declared.token.Sign.TheVariants.{Semicolon}
 use Rattle.ae_vmodule.specs.ModuleTree.{nets}
-use Rattle.ae_vmodule.specs.View.{net_tree, drive_tree}
+use Rattle.ae_vmodule.specs.View.{item_tree, net_tree, drive_tree}
 use Rattle.ae_vread.specs.TokenTests.{after_mark}
 use Rattle.ae_vread.specs.ItemReading.{item_found}
 use Rattle.ae_vread.proofs.Meanings.{no_more, extends_to}
@@ -18,5 +18,5 @@ returns-clause-read c =
       reg_item_is c.args.item (ahead c.args.self.now.tokens) _ _ c.in_ok-high.high e.0 high.read e.1 (ap (after_mark Semicolon) (sym e.2.rest) ∙ end.read),
       added_from net_tree _ _ _ _ _ _ (added_rest net_tree _ _ _ c.reg_list.new.self c.want_mark.new.self e.0 e.2 end.words)
           (extends_to _ _ _ (no_more _) high.words),
-      λ ws g. ap (λ ds. nets (map (drive_tree ws) ds)) c.new.ensures.items,
+      λ ws g. ap (item_tree ws) c.nets.ensures ∙ ap (λ ds. nets (map (drive_tree ws) ds)) c.new.ensures.items,
     )

@@ -2,7 +2,7 @@ use Rattle.std.proofs.Common.{◌-◌, sym, ap, ◌∙◌}
 use Rattle.ae_vtoken.specs.Ahead.{ahead}
 use Rattle.ae_vtoken.specs.declared.token.Sign.TheVariants.{Semicolon}
 use Rattle.ae_vmodule.specs.ModuleTree.{nets}
-use Rattle.ae_vmodule.specs.View.{drive_tree}
+use Rattle.ae_vmodule.specs.View.{item_tree, drive_tree}
 use Rattle.ae_vread.specs.TokenTests.{after_mark}
 use Rattle.ae_vread.specs.ItemReading.{item_found, drive_nets}
 use Rattle.ae_vread.proofs.Meanings.{extends_same}
@@ -18,5 +18,5 @@ returns-clause-read c =
       drives_are c.args.item c.args.high (ahead c.args.self.now.tokens) _ e.0 e.1 (ap (after_mark Semicolon) (sym e.2.rest) ∙ end.read),
       drives_declared c.args.high c.args.item _ _ c.drive_list.new.drives.items _ _ c.drive_list.new.self c.want_mark.new.self e.0 c.in_ok-drive_nets.ensures
           c.deref.ensures.value mean e.2.extends end.words,
-      λ ws g. ap nets (mean ws (extends_same _ _ ws g (sym end.words))),
+      λ ws g. ap (item_tree ws) c.nets.ensures ∙ ap nets (mean ws (extends_same _ _ ws g (sym end.words))),
     )

@@ -2,7 +2,7 @@ use Rattle.std.proofs.Common.{◌-◌, [], sym, ap, ◌∙◌, map}
 use Rattle.ae_vtoken.specs.Ahead.{ahead}
 use Rattle.ae_vtoken.specs.declared.token.Sign.TheVariants.{Semicolon}
 use Rattle.ae_vmodule.specs.ModuleTree.{nets}
-use Rattle.ae_vmodule.specs.View.{net_tree, drive_tree}
+use Rattle.ae_vmodule.specs.View.{item_tree, net_tree, drive_tree}
 use Rattle.ae_vread.specs.TokenTests.{after_mark}
 use Rattle.ae_vread.specs.ItemReading.{item_found}
 use Rattle.ae_vread.proofs.ItemSteps.{names_are, added_rest}
@@ -15,5 +15,5 @@ returns-clause-read c =
       item_found e.0.0 (nets []) (ahead c.want_mark.new.self.tokens),
       names_are c.args.item c.args.high (ahead c.args.self.now.tokens) _ e.0 e.1 (ap (after_mark Semicolon) (sym e.2.rest) ∙ end.read),
       added_rest net_tree _ _ _ c.net_list.new.self c.want_mark.new.self e.0 e.2 end.words,
-      λ ws g. ap (λ ds. nets (map (drive_tree ws) ds)) c.new.ensures.items,
+      λ ws g. ap (item_tree ws) c.nets.ensures ∙ ap (λ ds. nets (map (drive_tree ws) ds)) c.new.ensures.items,
     )
