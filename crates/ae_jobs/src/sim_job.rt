@@ -15,7 +15,7 @@ use crate::reply::{RUN_LIMIT, Reply, refused};
 use crate::status::{Status, VFaultKind};
 use ae_compile::OutOfMemory;
 use ae_elab::{ElabFault, elaborate};
-use ae_netlist::{Cell, Netlist, SizedCell, fill_begins, has_one_run_with};
+use ae_netlist::{Cell, Netlist, PackedCell, fill_begins, has_one_run_with};
 use ae_parse::{RowFault, read_rows};
 use ae_play::{Monitor, Stimulus, play, write_words};
 use ae_sim::Sim;
@@ -62,11 +62,11 @@ fn refused_as(alloc: Global, kind: Option<VFaultKind>) -> Result<Reply, OutOfMem
     }
 }
 
-fn push_input(widths: &mut Vec<u32>, sized: &SizedCell) -> Result<(), AllocError>
-    ensures { OnOk result (widths.new.items ≡ widths.old.items ++ map (λ (s : SizedCell). s.width) (cells_of is_input (sized.now ∷ []))) }
+fn push_input(widths: &mut Vec<u32>, packed: &PackedCell) -> Result<(), AllocError>
+    ensures { OnOk result (widths.new.items ≡ widths.old.items ++ map (λ (s : SizedCell). s.width) (cells_of is_input (packed.now ∷ []))) }
 {
-    match sized.cell {
-        Cell::Input(_) => Ok(widths.push(sized.width)?),
+    match packed.cell() {
+        Cell::Input(_) => Ok(widths.push(packed.width())?),
         Cell::Const(_) | Cell::Op(_, _) => Ok(()),
         Cell::Reg { .. } | Cell::Mem { .. } | Cell::Peek { .. } => Ok(()),
     }
@@ -77,8 +77,8 @@ fn input_widths(alloc: Global, nl: &Netlist) -> Result<Vec<u32>, AllocError>
     ensures { IfOk result (λ widths. widths.items ≡ map (λ (s : SizedCell). s.width) (cells_of is_input nl.now.cells)) }
 {
     let mut widths = Vec::new(alloc);
-    for sized in nl.cells() {
-        push_input(&mut widths, sized)?;
+    for packed in nl.cells() {
+        push_input(&mut widths, packed)?;
     }
     Ok(widths)
 }

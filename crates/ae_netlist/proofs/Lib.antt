@@ -1,4 +1,5 @@
 pub mod Gets
+pub mod FirstNets
 pub mod Growing
 pub mod Counting
 pub mod Settled

@@ -6,6 +6,8 @@ ghost use Rattle.ae_netlist.specs.Circuit.{Circuit, IsNet, IsAllowed, IsFormed, 
 ghost use Rattle.ae_netlist.specs.Counts.{AreNumbered, IsNumbered, cells_of, count_of, is_input};
 
 use crate::cell::{Cell, NetId, Outlet, Port, SizedCell};
+use crate::input_nets::InputNets;
+use crate::packed::PackedCell;
 use ae_word::Width;
 use std::alloc::{AllocError, AllocFailed, Global};
 use std::marker::Model;
@@ -43,9 +45,8 @@ impl<T: Drop> From<AllocFailed<T>> for NetFault {
 #[derive(Drop)]
 pub struct Netlist {
     limit: u32,
-    cells: Vec<SizedCell>,
-    /// The nets of the inputs, in order.
-    inputs: Vec<NetId>,
+    cells: Vec<PackedCell>,
+    inputs: InputNets,
     outlets: Vec<Outlet>,
 }
 
@@ -54,7 +55,7 @@ impl Model for Netlist {
 
     ghost view = { λ n. record { limit = n.limit; cells = n.cells.items; outlets = n.outlets.items } };
 
-    ghost invariant = { λ n. (length n.cells.items ≤ n.limit) × IsFormed n.cells.items × HaveNets n.cells.items n.outlets.items × AreNumbered is_input n.cells.items n.inputs.items × (length n.outlets.items < 2 ^ 32) × (n.limit < 2 ^ 32) };
+    ghost invariant = { λ n. (length n.cells.items ≤ n.limit) × IsFormed n.cells.items × HaveNets n.cells.items n.outlets.items × AreNumbered is_input n.cells.items n.inputs × (length n.outlets.items < 2 ^ 32) × (n.limit < 2 ^ 32) };
 }
 
 impl Netlist {
@@ -65,7 +66,7 @@ impl Netlist {
         Netlist {
             limit,
             cells: Vec::new(alloc),
-            inputs: Vec::new(alloc),
+            inputs: InputNets::new(alloc),
             outlets: Vec::new(alloc),
         }
     }
@@ -90,7 +91,7 @@ impl Netlist {
     }
 
     /// All cells, by their nets.
-    pub fn cells(&self) -> &[SizedCell]
+    pub fn cells(&self) -> &[PackedCell]
         ensures { result.now ≡ self.now.cells }
     {
         &self.cells
@@ -104,11 +105,11 @@ impl Netlist {
     }
 
     /// The cell of a net; None exactly where there is no such net.
-    pub fn cell(&self, n: NetId) -> Option<&Cell>
-        ensures { option_copied result ≡ option_map (λ sized. sized.cell) (slice_get self.now.cells n.0) }
+    pub fn cell(&self, n: NetId) -> Option<Cell>
+        ensures { result ≡ option_map (λ sized. sized.cell) (slice_get self.now.cells n.0) }
     {
         match self.cells.get(n.0 as usize) {
-            Some(sized) => Some(&sized.cell),
+            Some(packed) => Some(packed.cell()),
             None => None,
         }
     }
@@ -117,7 +118,10 @@ impl Netlist {
     pub fn sized(&self, n: NetId) -> Option<SizedCell>
         ensures { result ≡ slice_get self.now.cells n.0 }
     {
-        self.cells.get(n.0 as usize).copied()
+        match self.cells.get(n.0 as usize) {
+            Some(packed) => Some(packed.sized()),
+            None => None,
+        }
     }
 
     /// The width of a net, in bits; None exactly where there is no such net.
@@ -125,7 +129,7 @@ impl Netlist {
         ensures { result ≡ option_map (λ sized. sized.width) (slice_get self.now.cells n.0) }
     {
         match self.cells.get(n.0 as usize) {
-            Some(sized) => Some(sized.width),
+            Some(packed) => Some(packed.width()),
             None => None,
         }
     }
@@ -142,15 +146,15 @@ impl Netlist {
         ensures found { IfSome result (λ n. IsNumbered is_input self.now.cells k n.0) }
         ensures some { IsSome result ↔ (k < count_of is_input self.now.cells) }
     {
-        self.inputs.get(k as usize).copied()
+        self.inputs.net(k)
     }
 
     /// The width of an input, numbered as they were added; None exactly where there is no such input.
     pub fn input_width(&self, k: u32) -> Option<u32>
         ensures { result ≡ option_map (λ sized. sized.width) (slice_get (cells_of is_input self.now.cells) k) }
     {
-        match self.inputs.get(k as usize) {
-            Some(n) => Some(self.cells[n.0 as usize].width),
+        match self.inputs.net(k) {
+            Some(n) => Some(self.cells[n.0 as usize].width()),
             None => None,
         }
     }
@@ -178,7 +182,7 @@ impl Netlist {
         ensures err { OnErr result (self.new ≡ self.old) }
     {
         let net = self.cells.len();
-        self.cells.push(sized)?;
+        self.cells.push(PackedCell::of(sized))?;
         Ok(NetId(net as u32))
     }
 
@@ -191,12 +195,12 @@ impl Netlist {
         ensures err { OnErr result (self.new ≡ self.old) }
     {
         let net = self.cells.len();
-        self.inputs.push(NetId(net as u32))?;
-        match self.cells.push(sized) {
+        self.cells.push(PackedCell::of(sized))?;
+        match self.inputs.push(NetId(net as u32)) {
             Ok(()) => Ok(NetId(net as u32)),
             Err(refused) => {
-                self.inputs.pop();
-                Err(AllocError::from(refused))
+                self.cells.pop();
+                Err(refused)
             }
         }
     }
@@ -319,7 +323,11 @@ impl Netlist {
         requires next { IsNet self.old.cells next.0 (width_of self.old.cells r.0) }
         ensures { self.new ≡ record self.old { cells = slice_set self.old.cells r.0 (record { width = width_of self.old.cells r.0; cell = Cell.Reg next }) } }
     {
-        self.cells[r.0 as usize].cell = Cell::Reg { next };
+        let width = self.cells[r.0 as usize].width();
+        self.cells[r.0 as usize] = PackedCell::of(SizedCell {
+            width,
+            cell: Cell::Reg { next },
+        });
     }
 
     /// Connects a memory: from now on its word at place `at` becomes that of `next` at the end of each clock in which
@@ -329,13 +337,17 @@ impl Netlist {
         requires written { IsWritten self.old.cells (width_of self.old.cells m.0) (depth_of self.old.cells m.0) at.0 next.0 enable.0 }
         ensures { self.new ≡ record self.old { cells = slice_set self.old.cells m.0 (record { width = width_of self.old.cells m.0; cell = Cell.Mem (depth_of self.old.cells m.0) at next enable }) } }
     {
-        if let Cell::Mem { depth, .. } = self.cells[m.0 as usize].cell {
-            self.cells[m.0 as usize].cell = Cell::Mem {
-                depth,
-                at,
-                next,
-                enable,
-            };
+        let SizedCell { width, cell } = self.cells[m.0 as usize].sized();
+        if let Cell::Mem { depth, .. } = cell {
+            self.cells[m.0 as usize] = PackedCell::of(SizedCell {
+                width,
+                cell: Cell::Mem {
+                    depth,
+                    at,
+                    next,
+                    enable,
+                },
+            });
         }
     }
 

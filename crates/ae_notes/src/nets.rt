@@ -5,7 +5,7 @@ use crate::operators::word_of;
 use ae_compile::{Compiled, Costs};
 use ae_items::BitRange;
 use ae_lower::Section;
-use ae_netlist::{Cell, SizedCell};
+use ae_netlist::{Cell, PackedCell, SizedCell};
 use ae_print::op_name;
 use ae_seq::{Func, Node};
 use ae_verilog::Note;
@@ -107,16 +107,16 @@ fn write_signal(
 fn write_line_nets(
     out: &mut String,
     line: &Line<'_>,
-    cells: &[SizedCell],
+    cells: &[PackedCell],
     from: usize,
     form: NoteForm,
 ) -> Result<(), AllocError> {
     let mut net = from;
-    for sized in cells {
+    for packed in cells {
         if form.is_file {
-            write_signal(out, line, net, *sized, form)?;
+            write_signal(out, line, net, packed.sized(), form)?;
         } else {
-            write_net(out, line, net, sized.cell)?;
+            write_net(out, line, net, packed.cell())?;
             out.push_str("\n")?;
         }
         net = net.saturating_add(1);

@@ -1,7 +1,7 @@
 // The longest chains of operators between registers.
 
 use ae_compile::Compiled;
-use ae_netlist::{Cell, NetId, SizedCell};
+use ae_netlist::{Cell, NetId, PackedCell};
 use ae_verilog::Note;
 use ae_word::WordOp;
 use std::alloc::{AllocError, Global};
@@ -112,10 +112,10 @@ fn begin_of(notes: &[Note], number: usize, cells: usize) -> usize {
 }
 
 // How many operators stand on the way to each cell; all cells that it reads in its own clock stand before it.
-fn depths_of(alloc: Global, cells: &[SizedCell]) -> Result<Vec<u32>, AllocError> {
+fn depths_of(alloc: Global, cells: &[PackedCell]) -> Result<Vec<u32>, AllocError> {
     let mut depths = Vec::new(alloc);
-    for sized in cells {
-        let depth = depth_of(&depths, sized.cell);
+    for packed in cells {
+        let depth = depth_of(&depths, packed.cell());
         depths.push(depth)?;
     }
     Ok(depths)

@@ -5,7 +5,7 @@ ghost use Rattle.ae_netlist.specs.Circuit.{IsFormed};
 ghost use Rattle.ae_netlist.specs.Counts.{cells_of, is_input, is_memory, is_register, number_of};
 ghost use Rattle.ae_sim.specs.Planned.{filled_memory, memory_for, memory_tree, next_of, register_for, step_for};
 
-use ae_netlist::{Cell, NetId, Netlist, SizedCell};
+use ae_netlist::{Cell, NetId, Netlist, PackedCell, SizedCell};
 use ae_word::WordOp;
 use std::alloc::{AllocError, Global};
 
@@ -115,16 +115,22 @@ fn mask_of(width: u32) -> u64
 }
 
 /// The step of one cell, by how many inputs and registers stand before it, and how many memories before each net.
-pub fn step_of(cells: &[SizedCell], n: usize, inputs: u32, registers: u32, memories: &[u32]) -> Step
-    requires formed { IsFormed cells.now }
-    requires there { n < length cells.now }
-    requires inputs { inputs ≡ number_of is_input cells.now n }
-    requires registers { registers ≡ number_of is_register cells.now n }
-    requires long { length memories.now ≡ length cells.now }
-    requires counts { (m : ℕ) → m < length cells.now → get_or memories.now m 0 ≡ number_of is_memory cells.now m }
-    ensures { (sized : SizedCell) → slice_get cells.now n ≡ Some sized → result ≡ step_for cells.now n sized.width sized.cell }
+pub fn step_of(
+    _cells: &[PackedCell],
+    _n: usize,
+    sized: SizedCell,
+    inputs: u32,
+    registers: u32,
+    memories: &[u32],
+) -> Step
+    requires formed { IsFormed _cells.now }
+    requires there { slice_get _cells.now _n ≡ Some sized }
+    requires inputs { inputs ≡ number_of is_input _cells.now _n }
+    requires registers { registers ≡ number_of is_register _cells.now _n }
+    requires long { length memories.now ≡ length _cells.now }
+    requires counts { (m : ℕ) → m < length _cells.now → get_or memories.now m 0 ≡ number_of is_memory _cells.now m }
+    ensures { result ≡ step_for _cells.now _n sized.width sized.cell }
 {
-    let sized = cells[n];
     match sized.cell {
         Cell::Input(_) => Step::Taken(inputs),
         Cell::Const(word) => Step::Fixed(word),

@@ -67,12 +67,12 @@ pub fn settle(
     let mut kept = 0u32;
     let cells = nl.cells();
     for n in 0..cells.len() {
-        let step = step_of(cells, n, taken, kept, numbers);
+        let sized = cells[n].sized();
+        let step = step_of(cells, n, sized, taken, kept, numbers);
         let word = word_of(step, words.as_slice(), inputs, registers, memories);
         words[n] = word;
-        let cell = cells[n].cell;
-        taken += one_if_input(cell);
-        kept += one_if_register(cell);
+        taken += one_if_input(sized.cell);
+        kept += one_if_register(sized.cell);
     }
 }
 

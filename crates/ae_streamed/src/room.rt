@@ -13,7 +13,7 @@ fn cell_at(nl: &Netlist, n: u32) -> SizedCell
     requires { n < length nl.now.cells }
     ensures { slice_get nl.now.cells n ≡ Some result }
 {
-    nl.cells()[n as usize]
+    nl.cells()[n as usize].sized()
 }
 
 fn outlet_at(nl: &Netlist, k: u32) -> Outlet

@@ -8,7 +8,7 @@ pub fn cell_at(nl: &Netlist, net: NetId) -> SizedCell
     requires { net.0 < length nl.now.cells }
     ensures { slice_get nl.now.cells net.0 ≡ Some result }
 {
-    nl.cells()[net.0 as usize]
+    nl.cells()[net.0 as usize].sized()
 }
 
 pub fn outlet_at(nl: &Netlist, k: u32) -> Outlet

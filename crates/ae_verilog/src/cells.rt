@@ -11,7 +11,7 @@ ghost use Rattle.ae_verilog.specs.Text.{between, noted, wire_text, value_text, r
 use crate::header::width_at;
 use crate::names::{Names, write_net, write_number, write_range};
 use crate::notes::{Note, write_note};
-use ae_netlist::{Cell, NetId, SizedCell};
+use ae_netlist::{Cell, NetId, PackedCell, SizedCell};
 use ae_word::WordOp;
 use std::alloc::AllocError;
 
@@ -41,7 +41,7 @@ fn write_between(
 {
     let end = to.min(names.cells.len());
     for k in from..end {
-        write_cell(out, names, k, names.cells[k])?;
+        write_cell(out, names, k, names.cells[k].sized())?;
     }
     Ok(())
 }
@@ -154,7 +154,7 @@ fn write_op(
 }
 
 // Whether an operator makes a word of more bits.
-fn widens(cells: &[SizedCell], width: u32, op: WordOp, a: NetId) -> bool
+fn widens(cells: &[PackedCell], width: u32, op: WordOp, a: NetId) -> bool
     ensures { result ≡ (is_cast op && nat_lt (width_of cells.now a.0) width) }
 {
     match op {

@@ -44,8 +44,8 @@ fn write_outlet(
 pub fn write_edges(out: &mut String, names: &Names<'_>) -> Result<(), AllocError>
     ensures { OnOk result (string_bytes out.new ≡ string_bytes out.old ++ each_numbered (λ net sized. edge_text (table_line names.now.lines.now) names.now.cells.now net sized.cell) 0 names.now.cells.now) }
 {
-    for (k, sized) in names.cells.iter().enumerate() {
-        write_edge(out, names, k, *sized)?;
+    for (k, packed) in names.cells.iter().enumerate() {
+        write_edge(out, names, k, packed.sized())?;
     }
     Ok(())
 }

@@ -6,14 +6,14 @@ ghost use Rattle.ae_netlist.specs.Circuit.{width_of};
 ghost use Rattle.ae_verilog.specs.Text.{header_text, input_text, output_text, PortFits, CellPortFits};
 
 use crate::names::{write_port, write_range};
-use ae_netlist::{Cell, NetId, Outlet, SizedCell};
+use ae_netlist::{Cell, NetId, Outlet, PackedCell, SizedCell};
 use std::alloc::AllocError;
 
 // The module's name and its ports: the clock, the inputs, the outputs.
 pub fn write_header(
     out: &mut String,
     name: &str,
-    cells: &[SizedCell],
+    cells: &[PackedCell],
     outlets: &[Outlet],
     outs: usize,
 ) -> Result<(), AllocError>
@@ -27,19 +27,19 @@ pub fn write_header(
     write!(out, "\n);\n")
 }
 
-fn write_inputs(out: &mut String, cells: &[SizedCell]) -> Result<(), AllocError>
+fn write_inputs(out: &mut String, cells: &[PackedCell]) -> Result<(), AllocError>
     ensures text { OnOk result (string_bytes out.new ≡ string_bytes out.old ++ flat_map (λ sized. input_text sized.width sized.cell) cells.now) }
     ensures fits { OnOk result (All (λ sized. CellPortFits sized.cell) cells.now) }
 {
-    for sized in cells {
-        write_input(out, *sized)?;
+    for packed in cells {
+        write_input(out, packed.sized())?;
     }
     Ok(())
 }
 
 fn write_outputs(
     out: &mut String,
-    cells: &[SizedCell],
+    cells: &[PackedCell],
     outlets: &[Outlet],
     outs: usize,
 ) -> Result<(), AllocError>
@@ -71,7 +71,7 @@ fn write_input(out: &mut String, sized: SizedCell) -> Result<(), AllocError>
 // The port of an output.
 fn write_output(
     out: &mut String,
-    cells: &[SizedCell],
+    cells: &[PackedCell],
     outlet: Outlet,
     outs: usize,
 ) -> Result<(), AllocError>
@@ -85,11 +85,11 @@ fn write_output(
 
 // The width of a net, 0 where there is none.
 #[tactic(auto, unfolding(ae_netlist::specs::Circuit::width_of))]
-pub fn width_at(cells: &[SizedCell], net: NetId) -> u32
+pub fn width_at(cells: &[PackedCell], net: NetId) -> u32
     ensures { result ≡ width_of cells.now net.0 }
 {
     match cells.get(net.0 as usize) {
-        Some(sized) => sized.width,
+        Some(packed) => packed.width(),
         None => 0,
     }
 }

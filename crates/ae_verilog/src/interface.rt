@@ -7,7 +7,7 @@ ghost use Rattle.ae_verilog.specs.PortNets.{HasNets, input_ports, port_nets};
 
 use crate::header::width_at;
 use crate::names::write_port;
-use ae_netlist::{Cell, Netlist, Outlet, Port, SizedCell};
+use ae_netlist::{Cell, Netlist, Outlet, PackedCell, Port, SizedCell};
 use std::alloc::{AllocError, Global};
 
 /// The names of ports and their widths in bits, in order.
@@ -43,11 +43,11 @@ impl PortList {
         }
     }
 
-    fn push_inputs(&mut self, alloc: Global, cells: &[SizedCell]) -> Result<(), AllocError>
+    fn push_inputs(&mut self, alloc: Global, cells: &[PackedCell]) -> Result<(), AllocError>
         ensures { OnOk result ((before : List NetTree) → HasNets before self.old → HasNets (before ++ input_ports cells.now) self.new) }
     {
-        for sized in cells {
-            self.push_input(alloc, *sized)?;
+        for packed in cells {
+            self.push_input(alloc, packed.sized())?;
         }
         Ok(())
     }
@@ -55,7 +55,7 @@ impl PortList {
     fn push_outputs(
         &mut self,
         alloc: Global,
-        cells: &[SizedCell],
+        cells: &[PackedCell],
         outlets: &[Outlet],
         outs: usize,
     ) -> Result<(), AllocError>

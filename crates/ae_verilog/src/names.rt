@@ -5,7 +5,7 @@ ghost use Rattle.ae_verilog.specs.NetlistModule.{port_name, number_name, cell_na
 ghost use Rattle.ae_verilog.specs.Text.{range_text, PortFits};
 ghost use Rattle.ae_verilog.specs.Notes.{table_line};
 
-use ae_netlist::{Cell, Handshake, NetId, Port, SizedCell};
+use ae_netlist::{Cell, Handshake, NetId, PackedCell, Port};
 use std::alloc::AllocError;
 
 // The name of a port; an output names its result where there are several.
@@ -35,7 +35,7 @@ pub fn write_port(out: &mut String, port: Port, outs: usize) -> Result<(), Alloc
 // What nets are named by: the cells, and the line of each.
 #[derive(Drop)]
 pub struct Names<'a> {
-    pub cells: &'a [SizedCell],
+    pub cells: &'a [PackedCell],
     // 0 where a cell has no line
     pub lines: &'a [u32],
 }
@@ -47,7 +47,7 @@ pub fn write_net(out: &mut String, names: &Names<'_>, net: NetId) -> Result<(), 
 {
     let k = net.0 as usize;
     match names.cells.get(k) {
-        Some(sized) => write_cell_name(out, names.lines, k, sized.cell),
+        Some(packed) => write_cell_name(out, names.lines, k, packed.cell()),
         None => write_number(out, names.lines, k),
     }
 }

@@ -50,13 +50,9 @@ impl<'a> Words<'a> {
     pub fn listed(self) -> Result<WordList<'a>, AllocError>
         ensures { IfOk result (λ list. list ≡ self.entry) }
     {
-        let numbered = self.numbers.as_slice();
-        let mut words = Vec::with_capacity(*self.numbers.allocator(), numbered.len())?;
-        words.extend_from_slice(numbered)?;
-        Ok(WordList {
-            words,
-            keyed: *self.numbers.hasher(),
-        })
+        let keyed = *self.numbers.hasher();
+        let words = Vec::from_iter(*self.numbers.allocator(), self.numbers)?;
+        Ok(WordList { words, keyed })
     }
 }
 

@@ -24,14 +24,15 @@ fn compares(cell: &Cell) -> bool {
 pub fn tell(out: &mut Page, nl: &Netlist, registers: u32, comparisons: u32) {
     let mut kept = 0u32;
     let mut compared = 0u32;
-    for sized in nl.cells() {
-        if is_register(&sized.cell) {
+    for packed in nl.cells() {
+        let cell = packed.cell();
+        if is_register(&cell) {
             kept = kept.saturating_add(1);
         }
-        if compares(&sized.cell) {
+        if compares(&cell) {
             compared = compared.saturating_add(1);
         }
-        if let Cell::Mem { depth, .. } = sized.cell {
+        if let Cell::Mem { depth, .. } = cell {
             out.tell("a memory of ", &depth);
             out.say(" words\n");
         }

@@ -57,8 +57,8 @@ fn show_nets<R: Print>(rt: &R, alloc: Global, text: &[u8]) -> io::Result<()>
 
 // A line for each cell, its width first, and one for each output.
 fn show_cells<R: Print>(rt: &R, nl: &Netlist) -> io::Result<()> {
-    for sized in nl.cells() {
-        println!(rt; "  {} {:?}", sized.width, sized.cell)?;
+    for packed in nl.cells() {
+        println!(rt; "  {} {:?}", packed.width(), packed.cell())?;
     }
     for outlet in nl.outlets() {
         println!(rt; "  {outlet:?}")?;

@@ -359,9 +359,9 @@ pub fn tell_makers(out: &mut Page, nl: &Netlist) {
         match nl.cell(net) {
             Some(Cell::Reg { next }) => {
                 out.say(" register of");
-                net = *next;
+                net = next;
             }
-            Some(Cell::Op(op, _)) => return out.show(" ", op),
+            Some(Cell::Op(op, _)) => return out.show(" ", &op),
             Some(Cell::Input(_)) => return out.say(" input"),
             Some(Cell::Const(_)) | Some(Cell::Mem { .. }) | Some(Cell::Peek { .. }) => return,
             None => return,

@@ -19,7 +19,10 @@ word_of-word-requires c =
     let at = sized_there c.args.nl.now.cells c.loop-n.n there in
     let registers : length (map (λ r. r.held) c.args.registers.now) ≡ length c.args.registers.now = length-map c.args.registers.now (λ r. r.held) in
     let memories : length (map (λ m. m.words.items) c.args.memories.now) ≡ length c.args.memories.now = length-map c.args.memories.now (λ m. m.words.items) in
-    let step : c.step_of-step.result ≡ step_for c.args.nl.now.cells c.loop-n.n at.0.width at.0.cell = (rw same at c.step_of-step.ensures) at.0 at.1 in
+    let read : slice_get c.cells-cells.result.now c.loop-n.n ≡ Some at.0 = rw same at.1 in
+    let is : c.sized-sized.result ≡ at.0 = c.sized-sized.ensures ∙
+    (c.index-cells-n.is ∙ get_or_from_slice_get c.cells-cells.result.now c.loop-n.n at.0 _ read) in
+    let step : c.step_of-step.result ≡ step_for c.args.nl.now.cells c.loop-n.n at.0.width at.0.cell = rw (same, is) at c.step_of-step.ensures in
     rw (step, c.as_slice.ensures.value)
     (record {
       ready = is_ready c.args.nl.now.cells c.loop-n.n at.0.width (length c.loop-n.words.items) (length c.args.inputs.now) (length c.args.registers.now)
@@ -35,11 +38,11 @@ loop-n-preserved c =
     let same : c.cells-cells.result.now ≡ cells = c.cells-cells.ensures in
     let at = sized_there cells c.loop-n.n (rw same at c.loop-n-test.true) in
     let read : slice_get c.cells-cells.result.now c.loop-n.n ≡ Some at.0 = rw same at.1 in
-    let taken : c.one_if_input-taken.result ≡ cond (is_input at.0.cell) 1 0 = rw (get_or_from_slice_get c.cells-cells.result.now c.loop-n.n at.0 _ read) at
-    c.one_if_input-taken.ensures in
-    let kept : c.one_if_register-kept.result ≡ cond (is_register at.0.cell) 1 0 = rw (get_or_from_slice_get c.cells-cells.result.now c.loop-n.n at.0 _ read) at
-    c.one_if_register-kept.ensures in
-    let step : c.step_of-step.result ≡ step_for cells c.loop-n.n at.0.width at.0.cell = (rw same at c.step_of-step.ensures) at.0 at.1 in
+    let now : c.sized-sized.result ≡ at.0 = c.sized-sized.ensures ∙
+    (c.index-cells-n.is ∙ get_or_from_slice_get c.cells-cells.result.now c.loop-n.n at.0 _ read) in
+    let taken : c.one_if_input-taken.result ≡ cond (is_input at.0.cell) 1 0 = rw now at c.one_if_input-taken.ensures in
+    let kept : c.one_if_register-kept.result ≡ cond (is_register at.0.cell) 1 0 = rw now at c.one_if_register-kept.ensures in
+    let step : c.step_of-step.result ≡ step_for cells c.loop-n.n at.0.width at.0.cell = rw (same, now) at c.step_of-step.ensures in
     let gives : Gives (step_for cells c.loop-n.n at.0.width at.0.cell) c.loop-n.words.items c.args.inputs.now held c.word_of-word.result =
     rw (step, c.as_slice.ensures.value) at c.word_of-word.ensures.gives in
     let is : c.word_of-word.result ≡ cell_word cells (word_in cells held c.args.inputs.now)

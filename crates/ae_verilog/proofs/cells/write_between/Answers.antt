@@ -9,4 +9,5 @@ pub loop-k-preserved : goal.loop-k-preserved
 loop-k-preserved c =
     between_more (λ net sized. declaration_text (table_line c.args.names.now.lines.now) c.args.names.now.cells.now net sized.width sized.cell)
     c.args.names.now.cells.now c.loop-k.k c.args.to _ _ _ _
-    (omega (arith, c.loop-k-test.true, c.min-end.ensures)) (omega (arith, c.loop-k-test.true, c.min-end.ensures)) c.in_ok-write_cell.ensures c.loop-k.invariant
+    (omega (arith, c.loop-k-test.true, c.min-end.ensures)) (omega (arith, c.loop-k-test.true, c.min-end.ensures))
+    (rw c.sized.ensures at c.in_ok-write_cell.ensures) c.loop-k.invariant

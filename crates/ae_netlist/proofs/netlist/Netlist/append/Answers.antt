@@ -1,5 +1,5 @@
 -- A netlist with one more sized is formed.
-use Rattle.std.proofs.Common.{◌≡◌, ◌<◌, length, ◌++◌, ◌∷◌, [], ap, arith, length-append}
+use Rattle.std.proofs.Common.{◌≡◌, ◌∙◌, ◌<◌, length, ◌++◌, ◌∷◌, [], ap, arith, length-append}
 use Rattle.ae_netlist.specs.Circuit.{Circuit, SizedCellFits}
 use Rattle.ae_netlist.proofs.Growing.{formed_push, nets_later, keeps_extends, extends_append}
 use Rattle.ae_netlist.specs.Counts.{is_input}
@@ -12,7 +12,8 @@ invariant_of-self-2 c =
     let room : length c.self.inside.cells.items < c.self.inside.limit = rw (same, ap (λ (v : Circuit). v.limit) c.self.view_is) c.requires.room in
     let fits : SizedCellFits c.self.inside.cells.items (c.self.inside.cells.items ++ c.args.sized ∷ [])
     (length c.self.inside.cells.items) c.args.sized = rw same c.requires.fits in
-    let cells : c.push.new.self.items ≡ c.self.inside.cells.items ++ c.args.sized ∷ [] = c.in_ok-push.ensures.items in
+    let cells : c.push.new.self.items ≡ c.self.inside.cells.items ++ c.args.sized ∷ [] = c.in_ok-push.ensures.items ∙
+    ap (λ s. c.self.inside.cells.items ++ s ∷ []) c.of.ensures in
     rw cells (
       omega (arith, room, length-append c.self.inside.cells.items (c.args.sized ∷ [])),
       formed_push _ _ c.self.invariant.1 fits,

@@ -1,5 +1,5 @@
 -- A netlist with one more input is formed, and its inputs are numbered.
-use Rattle.std.proofs.Common.{◌≡◌, ◌<◌, length, ◌++◌, ◌∷◌, [], ap, arith, length-append}
+use Rattle.std.proofs.Common.{◌≡◌, ◌∙◌, ◌<◌, length, ◌++◌, ◌∷◌, [], ap, arith, length-append}
 use Rattle.ae_netlist.specs.declared.cell.NetId.{NetId}
 use Rattle.ae_netlist.specs.Circuit.{Circuit, SizedCellFits}
 use Rattle.ae_netlist.specs.Counts.{is_input}
@@ -14,8 +14,9 @@ invariant_of-self-in-Ok c =
     let room : length c.self.inside.cells.items < c.self.inside.limit = rw (same, ap (λ (v : Circuit). v.limit) c.self.view_is) c.requires.room in
     let fits : SizedCellFits c.self.inside.cells.items (c.self.inside.cells.items ++ c.args.sized ∷ [])
     (length c.self.inside.cells.items) c.args.sized = rw same c.requires.fits in
-    let cells : c.push-2.new.self.items ≡ c.self.inside.cells.items ++ c.args.sized ∷ [] = c.in-Ok.ensures.items in
-    let inputs : c.push.new.self.items ≡ c.self.inside.inputs.items ++ net ∷ [] = c.in_ok-push.ensures.items in
+    let cells : c.push.new.self.items ≡ c.self.inside.cells.items ++ c.args.sized ∷ [] = c.in_ok-push.ensures.items ∙
+    ap (λ s. c.self.inside.cells.items ++ s ∷ []) c.of.ensures in
+    let inputs : c.push-2.new.self ≡ c.self.inside.inputs ++ net ∷ [] = c.in-Ok.ensures.ok in
     rw (cells, inputs) (
       omega (arith, room, length-append c.self.inside.cells.items (c.args.sized ∷ [])),
       formed_push _ _ c.self.invariant.1 fits,

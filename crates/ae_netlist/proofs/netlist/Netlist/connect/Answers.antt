@@ -1,6 +1,7 @@
 -- A netlist with a register that is connected is formed, and only that register has changed.
-use Rattle.std.proofs.Common.{◌≡◌, refl, ◌∙◌, ap, length-set}
+use Rattle.std.proofs.Common.{ℕ, ◌≡◌, refl, ◌∙◌, ap, length-set}
 use Rattle.std.proofs.lemmas.Option.{get_or_from_slice_get}
+use Rattle.ae_netlist.specs.declared.cell.Cell.TheVariants.{Reg}
 use Rattle.ae_netlist.specs.declared.cell.SizedCell.{SizedCell}
 use Rattle.ae_netlist.specs.Circuit.{Circuit, IsRegister, IsNet, width_of}
 use Rattle.ae_netlist.proofs.Growing.{formed_connected, keeps_connected, nets_later}
@@ -13,10 +14,12 @@ invariant_of-self c =
     let same : c.self.inside.cells.items ≡ c.args.self.now.cells = ap (λ (v : Circuit). v.cells) c.self.view_is in
     let reg : IsRegister c.self.inside.cells.items c.args.r.0 (width_of c.self.inside.cells.items c.args.r.0) = rw same c.requires.register in
     let there : IsNet c.self.inside.cells.items c.args.next.0 (width_of c.self.inside.cells.items c.args.r.0) = rw same c.requires.next in
-    let wide : c.index_mut.result.now.width ≡ width_of c.self.inside.cells.items c.args.r.0 =
-    ap (λ (n : SizedCell). n.width) (c.index_mut.ensures.value ∙
-    get_or_from_slice_get c.self.inside.cells.items c.args.r.0 _ c.index_mut.result.now reg.found) in
-    rw wide (
+    let wide : c.width-width.result ≡ width_of c.self.inside.cells.items c.args.r.0 =
+    c.width-width.ensures ∙ ap (λ (n : SizedCell). n.width)
+    (c.index.ensures ∙ get_or_from_slice_get c.self.inside.cells.items c.args.r.0 _ c.index.result.now reg.found) in
+    let placed : c.of.result ≡ record { width = width_of c.self.inside.cells.items c.args.r.0; cell = Reg c.args.next } =
+    c.of.ensures ∙ ap (λ (w : ℕ). record { width = w; cell = Reg c.args.next }) wide in
+    rw placed (
       simp length-set c.self.invariant.0,
       formed_connected _ _ _ c.args.next c.self.invariant.1 reg there,
       nets_later _ _ _ (keeps_connected _ _ _ c.args.next reg) c.self.invariant.2,
@@ -29,7 +32,9 @@ pub returns : goal.returns
 returns c =
     let same : c.self.inside.cells.items ≡ c.args.self.now.cells = ap (λ (v : Circuit). v.cells) c.self.view_is in
     let reg : IsRegister c.self.inside.cells.items c.args.r.0 (width_of c.self.inside.cells.items c.args.r.0) = rw same c.requires.register in
-    let wide : c.index_mut.result.now.width ≡ width_of c.self.inside.cells.items c.args.r.0 =
-    ap (λ (n : SizedCell). n.width) (c.index_mut.ensures.value ∙
-    get_or_from_slice_get c.self.inside.cells.items c.args.r.0 _ c.index_mut.result.now reg.found) in
-    rw (wide, ← c.self.view_is)
+    let wide : c.width-width.result ≡ width_of c.self.inside.cells.items c.args.r.0 =
+    c.width-width.ensures ∙ ap (λ (n : SizedCell). n.width)
+    (c.index.ensures ∙ get_or_from_slice_get c.self.inside.cells.items c.args.r.0 _ c.index.result.now reg.found) in
+    let placed : c.of.result ≡ record { width = width_of c.self.inside.cells.items c.args.r.0; cell = Reg c.args.next } =
+    c.of.ensures ∙ ap (λ (w : ℕ). record { width = w; cell = Reg c.args.next }) wide in
+    rw (placed, ← c.self.view_is)
