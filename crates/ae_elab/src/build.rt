@@ -19,7 +19,7 @@ use crate::outputs::add_outputs;
 use crate::wires::add_wires;
 use ae_judge::{ElabFault, Names, judge, spelled_shape};
 use ae_netlist::{Netlist, has_one_run};
-use ae_order::{drive_values, sorted_wires};
+use ae_order::{Sparse, drive_values, sorted_wires};
 use ae_runs::same_runs;
 use ae_vmodule::{Expr, VModule};
 use std::alloc::{AllocError, Global};
@@ -33,13 +33,13 @@ fn construct(
     alloc: Global,
     names: &Names<'_>,
     m: &VModule<'_>,
-    values: Vec<Option<Expr<'_>>>,
+    values: Sparse<Expr<'_>>,
     order: Vec<u32>,
 ) -> Result<Netlist, AllocError>
     requires names { names.now ≡ table_of m.now.words m.now.nets.items }
     requires shape { IsShapely (module_tree m.now) }
     requires regular { IsRegular (module_tree m.now) }
-    requires values { map (value_tree names.now.words) values.items ≡ values_of (module_tree m.now) }
+    requires values { map (value_tree names.now.words) values ≡ values_of (module_tree m.now) }
     requires sorted { IsWireOrder (module_tree m.now) order.items }
     requires small { weight (module_tree m.now) ≤ 10000000 }
     ensures realizes { IfOk result (λ n. (at : List ℕ → ℕ) × Realizes (module_tree m.now) n at) }

@@ -19,6 +19,7 @@ ghost use Rattle.ae_elab.specs.Wiring.{AreWired, IsWiring, KeepsNets, open_weigh
 use ae_express::given_word;
 use ae_judge::Names;
 use ae_netlist::{NetId, Netlist};
+use ae_order::Sparse;
 use ae_vmodule::{Expr, VModule};
 use std::alloc::AllocError;
 
@@ -30,11 +31,11 @@ fn place_at(order: &[u32], turn: usize) -> usize
 }
 
 /// The value of the equation at a place, if there is one.
-fn value_at<'m>(values: &[Option<Expr<'m>>], place: usize) -> Option<Expr<'m>>
+fn value_at<'m>(values: &Sparse<Expr<'m>>, place: usize) -> Option<Expr<'m>>
     requires inside { place < length values.now }
     ensures { (ws : List (List ℕ)) → slice_get (map (value_tree ws) values.now) place ≡ Some (value_tree ws result) }
 {
-    values[place]
+    values.at(place)
 }
 
 fn net_width(m: &VModule<'_>, place: usize) -> u32
@@ -57,7 +58,7 @@ fn add_wire(
     from: u32,
     names: &Names<'_>,
     m: &VModule<'_>,
-    values: &[Option<Expr<'_>>],
+    values: &Sparse<Expr<'_>>,
     order: &[u32],
     turn: usize,
     nets: &mut Vec<Option<NetId>>,
@@ -94,14 +95,14 @@ pub fn add_wires(
     from: u32,
     names: &Names<'_>,
     m: &VModule<'_>,
-    values: Vec<Option<Expr<'_>>>,
+    values: Sparse<Expr<'_>>,
     order: Vec<u32>,
     nets: &mut Vec<Option<NetId>>,
 ) -> Result<(), AllocError>
     requires names { names.now ≡ table_of m.now.words m.now.nets.items }
     requires shape { IsShapely (module_tree m.now) }
     requires regular { IsRegular (module_tree m.now) }
-    requires values { map (value_tree names.now.words) values.items ≡ values_of (module_tree m.now) }
+    requires values { map (value_tree names.now.words) values ≡ values_of (module_tree m.now) }
     requires sorted { IsWireOrder (module_tree m.now) order.items }
     requires from { from ≡ length nl.old.cells }
     requires declared { AreDeclared (module_tree m.now) (module_tree m.now).nets nets.old.items nl.old.cells }

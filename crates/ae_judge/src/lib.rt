@@ -18,6 +18,7 @@ mod widths;
 pub use fault::ElabFault;
 pub use judging::judge;
 pub use kinds::{clock_of, is_named};
+pub use maybe_place::MaybePlace;
 pub use names::Names;
 pub use shape::spelled_shape;
 pub use weigh::is_large;

@@ -3,6 +3,7 @@ mod SymbolNames
 pub mod DriveLaws
 pub mod SoundLaws
 pub mod SoundOf
+pub mod SparseLaws
 pub mod Turns
 mod FlatLaws
 mod GraphLeft

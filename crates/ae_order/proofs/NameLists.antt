@@ -1,5 +1,5 @@
 -- The names that lists of expressions read, and lists of equations.
-use Rattle.std.proofs.Common.{ℕ, zero, suc, ◌≡◌, ◌+◌, ◌<◌, ◌≤◌, List, [], ◌∷◌, ◌++◌, length, map, take, set, replicate, Option, Some, None, slice_get, refl, sym, ap, ◌∙◌, arith, append_assoc, append-nil, add-one, inl, inr, IfSome, length-append}
+use Rattle.std.proofs.Common.{ℕ, zero, suc, ◌≡◌, ◌+◌, ◌<◌, ◌≤◌, List, [], ◌∷◌, ◌++◌, length, map, take, set, Option, Some, None, slice_get, refl, sym, ap, ◌∙◌, arith, append_assoc, append-nil, add-one, inl, inr, IfSome, length-append}
 use Rattle.std.specs.Prelude.{flat_map, option_map}
 use Rattle.std.proofs.lemmas.Bool.{cases_lt}
 use Rattle.ae_vmodule.specs.ModuleTree.{ExprTree, NetTree, DriveTree, ItemTree, ModuleTree}
@@ -50,13 +50,6 @@ more_items ns vs held new is i x h n t =
 pub all_equations : (m : ModuleTree) → flat_map drives_of m.items ≡ equations m
 unfolding equations
 all_equations m = refl
-
-pub nones_push : (n : ℕ) → replicate {A = Option ExprTree} n None ++ None ∷ [] ≡ replicate (n + 1) None
-nones_push n = push n ∙ ap (λ k. replicate k None) (sym (add-one n))
-  where
-    push : (n : ℕ) → replicate {A = Option ExprTree} n None ++ None ∷ [] ≡ replicate (suc n) None
-    push zero = refl
-    push (suc n) = ap (λ vs. None ∷ vs) (push n)
 
 -- what is so of a value that may be there
 pub if_some : {R : Type 0} (f : R → ExprTree) (P : ExprTree → Type 0) (o : Option R) → ((e : ExprTree) → option_map f o ≡ Some e → P e)

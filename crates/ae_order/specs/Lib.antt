@@ -2,3 +2,4 @@ pub mod Graph
 pub mod Walks
 pub mod Sound
 pub mod Drives
+pub mod Sparses

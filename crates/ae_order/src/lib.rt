@@ -4,6 +4,8 @@
 mod order;
 mod places;
 mod sort;
+mod sparse;
 
 pub use order::{drive_values, sorted_wires};
 pub use places::{place_number, place_of};
+pub use sparse::Sparse;

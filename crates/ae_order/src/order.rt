@@ -1,6 +1,6 @@
 // The order of the wires of a module.
 
-ghost use Rattle.std.specs.Prelude.{ℕ, List, ◌≡◌, ◌<◌, ◌^◌, ◌++◌, ◌+◌, ◌∷◌, [], IfErr, IfOk, IfSome, OnOk, None, length, map, replicate};
+ghost use Rattle.std.specs.Prelude.{ℕ, List, ◌≡◌, ◌<◌, ◌^◌, ◌++◌, ◌+◌, ◌∷◌, [], IfErr, IfOk, IfSome, OnOk, length, map};
 ghost use Rattle.ae_vmodule.specs.Roots.{numbered};
 ghost use Rattle.ae_vmodule.specs.View.{drive_tree, expr_tree, item_tree, module_tree, word_at};
 ghost use Rattle.ae_judge.specs.Names.{Among, drives_of};
@@ -15,20 +15,27 @@ ghost use Rattle.ae_judge.specs.Table.{table_of};
 
 use crate::places::place_of;
 use crate::sort::{OrderFault, order};
+use crate::sparse::Sparse;
 use ae_judge::{ElabFault, Names, is_large};
 use ae_vmodule::{Drive, Expr, ItemParts, Symbol, VItem, VModule};
 use std::alloc::{AllocError, Global};
 
 /// Notes the value of each equation at the place of its name.
-fn note_drives<'m>(names: &Names<'_>, drives: &'m [Drive], values: &mut Vec<Option<Expr<'m>>>)
+fn note_drives<'m>(
+    names: &Names<'_>,
+    drives: &'m [Drive],
+    values: &mut Sparse<Expr<'m>>,
+) -> Result<(), AllocError>
     requires driven { AreDriven names.now.nets (map (drive_tree names.now.words) drives.now) }
-    requires long { length values.old.items ≡ length names.now.nets }
-    ensures long { length values.new.items ≡ length names.now.nets }
-    ensures noted { map (value_tree names.now.words) values.new.items ≡ noted names.now.nets (map (value_tree names.now.words) values.old.items) (map (drive_tree names.now.words) drives.now) }
+    requires long { length values.old ≡ length names.now.nets }
+    ensures long { OnOk result (length values.new ≡ length names.now.nets) }
+    ensures noted { OnOk result (map (value_tree names.now.words) values.new ≡ noted names.now.nets (map (value_tree names.now.words) values.old) (map (drive_tree names.now.words) drives.now)) }
 {
     'drive: for drive in drives {
-        values[place_of(names, drive.name)] = Some(drive.value.expr());
+        let place = place_of(names, drive.name);
+        values.set(place, drive.value.expr())?;
     }
+    Ok(())
 }
 
 /// Adds the place of a name.
@@ -85,7 +92,7 @@ struct Graph {
 fn graph_of(
     alloc: Global,
     names: &Names<'_>,
-    values: &[Option<Expr<'_>>],
+    values: &Sparse<Expr<'_>>,
 ) -> Result<Graph, AllocError>
     requires few { length names.now.nets < 2 ^ 32 }
     requires sound { AreSoundValues names.now.nets (map (value_tree names.now.words) values.now) }
@@ -93,38 +100,30 @@ fn graph_of(
 {
     let mut starts = Vec::new(alloc);
     let mut targets = Vec::new(alloc);
-    'value: for value in values {
+    'value: for place in 0..values.len() {
         starts.push(targets.len())?;
-        add_value(names, *value, &mut targets)?;
+        add_value(names, values.at(place), &mut targets)?;
     }
     starts.push(targets.len())?;
     Ok(Graph { starts, targets })
 }
 
 /// The values of the equations of one item.
-fn note_item<'m>(names: &Names<'_>, item: &'m VItem, values: &mut Vec<Option<Expr<'m>>>)
+fn note_item<'m>(
+    names: &Names<'_>,
+    item: &'m VItem,
+    values: &mut Sparse<Expr<'m>>,
+) -> Result<(), AllocError>
     requires driven { AreDriven names.now.nets (drives_of (item_tree names.now.words item.now)) }
-    requires long { length values.old.items ≡ length names.now.nets }
-    ensures long { length values.new.items ≡ length names.now.nets }
-    ensures noted { map (value_tree names.now.words) values.new.items ≡ noted names.now.nets (map (value_tree names.now.words) values.old.items) (drives_of (item_tree names.now.words item.now)) }
+    requires long { length values.old ≡ length names.now.nets }
+    ensures long { OnOk result (length values.new ≡ length names.now.nets) }
+    ensures noted { OnOk result (map (value_tree names.now.words) values.new ≡ noted names.now.nets (map (value_tree names.now.words) values.old) (drives_of (item_tree names.now.words item.now))) }
 {
     match item.parts() {
         ItemParts::Nets(drives) => note_drives(names, drives, values),
         ItemParts::Assign(drives) => note_drives(names, drives, values),
-        ItemParts::Always { .. } => (),
+        ItemParts::Always { .. } => Ok(()),
     }
-}
-
-/// No value at any of so many places.
-fn no_values<'m>(alloc: Global, count: usize) -> Result<Vec<Option<Expr<'m>>>, AllocError>
-    ensures long { IfOk result (λ values. length values.items ≡ count) }
-    ensures none { (ws : List (List ℕ)) → IfOk result (λ values. map (value_tree ws) values.items ≡ replicate count None) }
-{
-    let mut values = Vec::new(alloc);
-    'place: for _place in 0..count {
-        values.push(None)?;
-    }
-    Ok(values)
 }
 
 /// The value of the equation of each net, by places.
@@ -132,15 +131,15 @@ pub fn drive_values<'m>(
     alloc: Global,
     names: &Names<'_>,
     m: &'m VModule<'_>,
-) -> Result<Vec<Option<Expr<'m>>>, AllocError>
+) -> Result<Sparse<Expr<'m>>, AllocError>
     requires names { names.now ≡ table_of m.now.words m.now.nets.items }
     requires shape { IsShapely (module_tree m.now) }
     requires regular { IsRegular (module_tree m.now) }
-    ensures { IfOk result (λ values. map (value_tree names.now.words) values.items ≡ values_of (module_tree m.now)) }
+    ensures { IfOk result (λ values. map (value_tree names.now.words) values ≡ values_of (module_tree m.now)) }
 {
-    let mut values = no_values(alloc, m.nets.len())?;
+    let mut values = Sparse::none(alloc, m.nets.len());
     'item: for item in &m.items {
-        note_item(names, item, &mut values);
+        note_item(names, item, &mut values)?;
     }
     Ok(values)
 }

@@ -1,15 +1,16 @@
 use Rattle.std.proofs.Common.{◌≡◌, length, map, replicate, None, ap, ◌∙◌, arith, subst, sym}
 use Rattle.std.specs.Prelude.{flat_map}
-use Rattle.std.proofs.lemmas.List.{length-map}
+use Rattle.std.proofs.lemmas.List.{length-map, length-replicate}
 use Rattle.ae_vmodule.specs.View.{item_tree, net_tree, module_tree}
 use Rattle.ae_judge.specs.Names.{drives_of, equations}
 use Rattle.ae_judge.specs.Table.{NameTable}
-use Rattle.ae_order.specs.Drives.{AreDriven, noted}
+use Rattle.ae_order.specs.Drives.{AreDriven, noted, value_tree}
 use Rattle.ae_judge.proofs.Members.{among_at, among_from}
 use Rattle.ae_runs.proofs.Declared.{equation_from}
 use Rattle.ae_order.proofs.Turns.{at_turn, take_turn, take_whole}
 use Rattle.ae_order.proofs.DriveLaws.{equations_driven}
 use Rattle.ae_order.proofs.NameLists.{more_items, all_equations}
+use Rattle.ae_order.proofs.SparseLaws.{map_none}
 use Rattle.ae_order.proofs.order.drive_values.Goals as goal
 
 pub item-init : goal.item-init
@@ -20,8 +21,9 @@ item-init c =
     let long = c.args.m.now.nets.ok.0 in
     let count : c.len.result ≡ length c.args.names.now.nets = omega arith in
     record {
-      long = c.in_ok-values.ensures.long ∙ count;
-      noted = c.in_ok-values.ensures.none c.args.names.now.words ∙ ap (λ k. replicate k None) count;
+      long = ap length c.none-values.ensures ∙ length-replicate c.len.result None ∙ count;
+      noted = ap (map (value_tree c.args.names.now.words)) c.none-values.ensures ∙ map_none (value_tree c.args.names.now.words) c.len.result
+          ∙ ap (λ k. replicate k None) count;
     }
 
 pub note_item-requires-clause-driven : goal.note_item-requires-clause-driven
@@ -40,9 +42,9 @@ item-preserved c =
     let turn = take_turn (item_tree c.args.names.now.words) c.deref-item-items.result.now c.item.item-index c.item-item.result (omega arith) c.item-item.is in
     let there = rw c.deref-item-items.ensures.value at turn in
     record {
-      long = c.note_item.ensures.long;
+      long = c.in_ok-note_item.ensures.long;
       noted = more_items c.args.names.now.nets _ _ _ (map (item_tree c.args.names.now.words) c.args.m.now.items.items) c.item.item-index
-          (item_tree c.args.names.now.words c.item-item.result) c.item.invariant.noted c.note_item.ensures.noted there;
+          (item_tree c.args.names.now.words c.item-item.result) c.item.invariant.noted c.in_ok-note_item.ensures.noted there;
     }
 
 pub returns : goal.returns

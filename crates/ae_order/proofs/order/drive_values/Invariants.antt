@@ -8,7 +8,7 @@ use Rattle.ae_order.proofs.order.drive_values.Given as goal
 
 abbrev pub invariant-item : goal.invariant-item
 invariant-item l = record {
-  long : length l.values.items ≡ length l.names.nets;
-  noted : map (value_tree l.names.words) l.values.items ≡ noted l.names.nets (replicate (length l.names.nets) None)
+  long : length l.values ≡ length l.names.nets;
+  noted : map (value_tree l.names.words) l.values ≡ noted l.names.nets (replicate (length l.names.nets) None)
       (flat_map drives_of (take l.item-index (map (item_tree l.names.words) l.m.items.items)));
 }

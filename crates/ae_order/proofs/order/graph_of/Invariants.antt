@@ -4,4 +4,4 @@ use Rattle.ae_order.specs.Drives.{value_tree}
 use Rattle.ae_order.proofs.order.graph_of.Given as goal
 
 abbrev pub invariant-value : goal.invariant-value
-invariant-value l = IsFlat l.names.nets (map (value_tree l.names.words) l.values) l.value-index l.starts.items l.targets.items
+invariant-value l = IsFlat l.names.nets (map (value_tree l.names.words) l.values) l.place l.starts.items l.targets.items

@@ -6,7 +6,7 @@ use Rattle.ae_order.proofs.order.note_drives.Given as goal
 
 abbrev pub invariant-drive : goal.invariant-drive
 invariant-drive l = record {
-  long : length l.values.items ≡ length l.names.nets;
-  noted : map (value_tree l.names.words) l.values.items ≡ noted l.names.nets (map (value_tree l.names.words) l.fn.values.items)
+  long : length l.values ≡ length l.names.nets;
+  noted : map (value_tree l.names.words) l.values ≡ noted l.names.nets (map (value_tree l.names.words) l.fn.values)
       (take l.drive-index (map (drive_tree l.names.words) l.drives));
 }
