@@ -16,6 +16,7 @@ ghost use Rattle.ae_runs.specs.Named.{AreNamed, AreNets, read};
 ghost use Rattle.ae_order.specs.Sound.{IsReadyFor, IsSound};
 ghost use Rattle.ae_assign.specs.Edges.{Acts, AreFresh, FitNexts, IsActed, IsAddressWord, IsGuard, IsGuardNet, IsReadyStmt, IsSoFar, IsSoundStmt, IsWordNext, OthersKeep};
 
+use crate::nexts::Nexts;
 use ae_express::{address, given_word, name_width, net_of, own_word};
 use ae_gates::{fixed, gate, is_zero, select};
 use ae_judge::Names;
@@ -144,12 +145,12 @@ fn taken(
 }
 
 /// A register's next word so far.
-fn so_far(nexts: &[Next], place: usize, own: NetId) -> NetId
+fn so_far(nexts: &Nexts, place: usize, own: NetId) -> NetId
     requires inside { place < length nexts.now }
     requires word { IsWordNext (get_or nexts.now place Next.Keep) }
     ensures { IsSoFar (get_or nexts.now place Next.Keep) own result }
 {
-    match nexts[place] {
+    match nexts.at(place) {
         Next::Keep => own,
         Next::Word(y) => y,
         Next::Write { .. } => unreachable!(),
@@ -163,7 +164,7 @@ fn assign(
     from: u32,
     names: &Names<'_>,
     nets: &[Option<NetId>],
-    nexts: &mut Vec<Next>,
+    nexts: &mut Nexts,
     guard: Option<NetId>,
     name: u32,
     value: Expr<'_>,
@@ -173,12 +174,12 @@ fn assign(
     requires sound { IsSoundStmt names.now.nets (set_tree (word_at names.now.words name) (expr_tree names.now.words (numbered value))) }
     requires ready { IsReadyStmt names.now.nets nets.now (set_tree (word_at names.now.words name) (expr_tree names.now.words (numbered value))) }
     requires guard { IsGuardNet nl.old.cells guard }
-    requires nexts { FitNexts names.now.nets nexts.old.items nl.old.cells }
+    requires nexts { FitNexts names.now.nets nexts.old nl.old.cells }
     requires room { HasRoom nl.old (8 * (1 + expr_weight (expr_tree names.now.words (numbered value)))) }
     ensures adds { OnOk result (AddsGates nl.old nl.new (8 * (1 + expr_weight (expr_tree names.now.words (numbered value.entry))))) }
-    ensures nexts { OnOk result (FitNexts names.now.nets nexts.new.items nl.new.cells) }
-    ensures others { OnOk result (OthersKeep names.now.nets nexts.old.items nexts.new.items (stmt_targets (set_tree (word_at names.now.words name) (expr_tree names.now.words (numbered value.entry))))) }
-    ensures acts { OnOk result (Acts from names.now.nets nets.now guard nl.old.cells nl.new.cells nexts.old.items nexts.new.items (set_tree (word_at names.now.words name) (expr_tree names.now.words (numbered value.entry)))) }
+    ensures nexts { OnOk result (FitNexts names.now.nets nexts.new nl.new.cells) }
+    ensures others { OnOk result (OthersKeep names.now.nets nexts.old nexts.new (stmt_targets (set_tree (word_at names.now.words name) (expr_tree names.now.words (numbered value.entry))))) }
+    ensures acts { OnOk result (Acts from names.now.nets nets.now guard nl.old.cells nl.new.cells nexts.old nexts.new (set_tree (word_at names.now.words name) (expr_tree names.now.words (numbered value.entry)))) }
 {
     let place = place_of(names, name);
     let width = name_width(names, name);
@@ -186,7 +187,7 @@ fn assign(
     let word = given_word(nl, from, names, nets, width, value)?;
     let before = so_far(nexts, place, own);
     let next = taken(nl, from, guard, word, before, width)?;
-    nexts[place] = Next::Word(next);
+    nexts.set(place, Next::Word(next))?;
     Ok(())
 }
 
@@ -225,7 +226,7 @@ fn write(
     from: u32,
     names: &Names<'_>,
     nets: &[Option<NetId>],
-    nexts: &mut Vec<Next>,
+    nexts: &mut Nexts,
     guard: Option<NetId>,
     name: u32,
     at: Expr<'_>,
@@ -236,20 +237,20 @@ fn write(
     requires sound { IsSoundStmt names.now.nets (put_tree (word_at names.now.words name) (expr_tree names.now.words (numbered at)) (expr_tree names.now.words (numbered value))) }
     requires ready { IsReadyStmt names.now.nets nets.now (put_tree (word_at names.now.words name) (expr_tree names.now.words (numbered at)) (expr_tree names.now.words (numbered value))) }
     requires guard { IsGuardNet nl.old.cells guard }
-    requires nexts { FitNexts names.now.nets nexts.old.items nl.old.cells }
-    requires fresh { AreFresh names.now.nets nexts.old.items (stmt_targets (put_tree (word_at names.now.words name) (expr_tree names.now.words (numbered at)) (expr_tree names.now.words (numbered value)))) }
+    requires nexts { FitNexts names.now.nets nexts.old nl.old.cells }
+    requires fresh { AreFresh names.now.nets nexts.old (stmt_targets (put_tree (word_at names.now.words name) (expr_tree names.now.words (numbered at)) (expr_tree names.now.words (numbered value)))) }
     requires room { HasRoom nl.old (8 * (1 + (expr_weight (expr_tree names.now.words (numbered at)) + expr_weight (expr_tree names.now.words (numbered value))))) }
     ensures adds { OnOk result (AddsGates nl.old nl.new (8 * (1 + (expr_weight (expr_tree names.now.words (numbered at.entry)) + expr_weight (expr_tree names.now.words (numbered value.entry)))))) }
-    ensures nexts { OnOk result (FitNexts names.now.nets nexts.new.items nl.new.cells) }
-    ensures others { OnOk result (OthersKeep names.now.nets nexts.old.items nexts.new.items (stmt_targets (put_tree (word_at names.now.words name) (expr_tree names.now.words (numbered at.entry)) (expr_tree names.now.words (numbered value.entry))))) }
-    ensures acts { OnOk result (Acts from names.now.nets nets.now guard nl.old.cells nl.new.cells nexts.old.items nexts.new.items (put_tree (word_at names.now.words name) (expr_tree names.now.words (numbered at.entry)) (expr_tree names.now.words (numbered value.entry)))) }
+    ensures nexts { OnOk result (FitNexts names.now.nets nexts.new nl.new.cells) }
+    ensures others { OnOk result (OthersKeep names.now.nets nexts.old nexts.new (stmt_targets (put_tree (word_at names.now.words name) (expr_tree names.now.words (numbered at.entry)) (expr_tree names.now.words (numbered value.entry))))) }
+    ensures acts { OnOk result (Acts from names.now.nets nets.now guard nl.old.cells nl.new.cells nexts.old nexts.new (put_tree (word_at names.now.words name) (expr_tree names.now.words (numbered at.entry)) (expr_tree names.now.words (numbered value.entry)))) }
 {
     let place = place_of(names, name);
     let width = name_width(names, name);
     let at = written_at(nl, from, names, nets, name, at)?;
     let word = given_word(nl, from, names, nets, width, value)?;
     let enable = reached(nl, from, guard)?;
-    nexts[place] = Next::Write { at, word, enable };
+    nexts.set(place, Next::Write { at, word, enable })?;
     Ok(())
 }
 
@@ -261,7 +262,7 @@ pub fn act(
     from: u32,
     names: &Names<'_>,
     nets: &[Option<NetId>],
-    nexts: &mut Vec<Next>,
+    nexts: &mut Nexts,
     guard: Option<NetId>,
     stmt: Stmt<'_>,
 ) -> Result<(), AllocError>
@@ -270,10 +271,10 @@ pub fn act(
     requires sound { IsSoundStmt names.now.nets (stmt_tree names.now.words (numbered_stmt stmt)) }
     requires ready { IsReadyStmt names.now.nets nets.now (stmt_tree names.now.words (numbered_stmt stmt)) }
     requires guard { IsGuardNet nl.old.cells guard }
-    requires nexts { FitNexts names.now.nets nexts.old.items nl.old.cells }
-    requires fresh { AreFresh names.now.nets nexts.old.items (stmt_targets (stmt_tree names.now.words (numbered_stmt stmt))) }
+    requires nexts { FitNexts names.now.nets nexts.old nl.old.cells }
+    requires fresh { AreFresh names.now.nets nexts.old (stmt_targets (stmt_tree names.now.words (numbered_stmt stmt))) }
     requires room { HasRoom nl.old (8 * stmt_weight 0 (stmt_tree names.now.words (numbered_stmt stmt))) }
-    ensures { OnOk result (IsActed from names.now.nets nets.now guard nl.old nl.new nexts.old.items nexts.new.items (stmt_tree names.now.words (numbered_stmt stmt.entry))) }
+    ensures { OnOk result (IsActed from names.now.nets nets.now guard nl.old nl.new nexts.old nexts.new (stmt_tree names.now.words (numbered_stmt stmt.entry))) }
 {
     match stmt.root() {
         StmtRoot::Set { name, value } => assign(nl, from, names, nets, nexts, guard, name, value),
@@ -305,7 +306,7 @@ fn act_all(
     from: u32,
     names: &Names<'_>,
     nets: &[Option<NetId>],
-    nexts: &mut Vec<Next>,
+    nexts: &mut Nexts,
     guard: Option<NetId>,
     first: Stmt<'_>,
     rest: Stmt<'_>,
@@ -315,10 +316,10 @@ fn act_all(
     requires sound { IsSoundStmt names.now.nets (block_more (stmt_tree names.now.words (numbered_stmt first)) (stmt_tree names.now.words (numbered_stmt rest))) }
     requires ready { IsReadyStmt names.now.nets nets.now (block_more (stmt_tree names.now.words (numbered_stmt first)) (stmt_tree names.now.words (numbered_stmt rest))) }
     requires guard { IsGuardNet nl.old.cells guard }
-    requires nexts { FitNexts names.now.nets nexts.old.items nl.old.cells }
-    requires fresh { AreFresh names.now.nets nexts.old.items (stmt_targets (block_more (stmt_tree names.now.words (numbered_stmt first)) (stmt_tree names.now.words (numbered_stmt rest)))) }
+    requires nexts { FitNexts names.now.nets nexts.old nl.old.cells }
+    requires fresh { AreFresh names.now.nets nexts.old (stmt_targets (block_more (stmt_tree names.now.words (numbered_stmt first)) (stmt_tree names.now.words (numbered_stmt rest)))) }
     requires room { HasRoom nl.old (8 * stmt_weight 0 (block_more (stmt_tree names.now.words (numbered_stmt first)) (stmt_tree names.now.words (numbered_stmt rest)))) }
-    ensures { OnOk result (IsActed from names.now.nets nets.now guard nl.old nl.new nexts.old.items nexts.new.items (block_more (stmt_tree names.now.words (numbered_stmt first.entry)) (stmt_tree names.now.words (numbered_stmt rest.entry)))) }
+    ensures { OnOk result (IsActed from names.now.nets nets.now guard nl.old nl.new nexts.old nexts.new (block_more (stmt_tree names.now.words (numbered_stmt first.entry)) (stmt_tree names.now.words (numbered_stmt rest.entry)))) }
 {
     act(nl, from, names, nets, nexts, guard, first)?;
     let mut left = rest;

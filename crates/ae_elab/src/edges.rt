@@ -1,6 +1,6 @@
 // What is done at clock edges.
 
-ghost use Rattle.std.specs.Prelude.{◌≡◌, ◌≤◌, ◌<◌, ◌+◌, ◌*◌, ◌∷◌, [], ℕ, List, Some, false, true, length, map, replicate, slice_get, IfOk, OnOk};
+ghost use Rattle.std.specs.Prelude.{◌≡◌, ◌≤◌, ◌<◌, ◌+◌, ◌*◌, ◌∷◌, [], ℕ, List, Some, false, true, length, map, slice_get, OnOk};
 ghost use Rattle.std.specs.List.{AllByRecursion, flat_map, sum_by};
 ghost use Rattle.ae_netlist.specs.Runs.{Clock, IsRun};
 ghost use Rattle.ae_vmodule.specs.ModuleTree.{NetTree};
@@ -18,7 +18,7 @@ ghost use Rattle.ae_elab.specs.Declaring.{AreUnconnected, HasNet, IsUnconnected,
 ghost use Rattle.ae_elab.specs.Connecting.{Connects};
 ghost use Rattle.ae_assign.specs.Edges.{ActsItems, AreFresh, FitNexts, FitsNext, IsActiveItem, IsConnected, KeepsConstants, OthersKeep, OthersStay, edge_weight};
 
-use ae_assign::{Next, act};
+use ae_assign::{Next, Nexts, act};
 use ae_judge::Names;
 use ae_netlist::{NetId, Netlist};
 use ae_vmodule::{ItemParts, VItem, VModule, VNet, WordList};
@@ -31,19 +31,19 @@ fn act_item(
     from: u32,
     names: &Names<'_>,
     nets: &[Option<NetId>],
-    nexts: &mut Vec<Next>,
+    nexts: &mut Nexts,
     item: &VItem,
 ) -> Result<(), AllocError>
     requires from { from ≤ length nl.old.cells }
     requires nets { AreNets names.now.nets nets.now nl.old.cells }
     requires active { IsActiveItem names.now.nets nets.now (item_tree names.now.words item.now) }
-    requires nexts { FitNexts names.now.nets nexts.old.items nl.old.cells }
-    requires fresh { AreFresh names.now.nets nexts.old.items (item_targets (item_tree names.now.words item.now)) }
+    requires nexts { FitNexts names.now.nets nexts.old nl.old.cells }
+    requires fresh { AreFresh names.now.nets nexts.old (item_targets (item_tree names.now.words item.now)) }
     requires room { HasRoom nl.old (8 * edge_weight (item_tree names.now.words item.now)) }
     ensures adds { OnOk result (AddsGates nl.old nl.new (8 * edge_weight (item_tree names.now.words item.now))) }
-    ensures nexts { OnOk result (FitNexts names.now.nets nexts.new.items nl.new.cells) }
-    ensures others { OnOk result (OthersKeep names.now.nets nexts.old.items nexts.new.items (item_targets (item_tree names.now.words item.now))) }
-    ensures acts { OnOk result (ActsItems from names.now.nets nets.now nl.new.cells nexts.old.items nexts.new.items (item_tree names.now.words item.now ∷ [])) }
+    ensures nexts { OnOk result (FitNexts names.now.nets nexts.new nl.new.cells) }
+    ensures others { OnOk result (OthersKeep names.now.nets nexts.old nexts.new (item_targets (item_tree names.now.words item.now))) }
+    ensures acts { OnOk result (ActsItems from names.now.nets nets.now nl.new.cells nexts.old nexts.new (item_tree names.now.words item.now ∷ [])) }
 {
     match item.parts() {
         ItemParts::Nets(_) => Ok(()),
@@ -61,19 +61,19 @@ fn act_items(
     from: u32,
     names: &Names<'_>,
     nets: &[Option<NetId>],
-    nexts: &mut Vec<Next>,
+    nexts: &mut Nexts,
     items: &[VItem],
 ) -> Result<(), AllocError>
     requires from { from ≤ length nl.old.cells }
     requires nets { AreNets names.now.nets nets.now nl.old.cells }
     requires active { AllByRecursion (IsActiveItem names.now.nets nets.now) (map (item_tree names.now.words) items.now) }
-    requires nexts { FitNexts names.now.nets nexts.old.items nl.old.cells }
-    requires fresh { AreFresh names.now.nets nexts.old.items (flat_map item_targets (map (item_tree names.now.words) items.now)) }
+    requires nexts { FitNexts names.now.nets nexts.old nl.old.cells }
+    requires fresh { AreFresh names.now.nets nexts.old (flat_map item_targets (map (item_tree names.now.words) items.now)) }
     requires room { HasRoom nl.old (8 * sum_by edge_weight (map (item_tree names.now.words) items.now)) }
     ensures grows { OnOk result (GrowsByGates nl.old nl.new) }
     ensures few { OnOk result (length nl.new.cells ≤ length nl.old.cells + 8 * sum_by edge_weight (map (item_tree names.now.words) items.now)) }
-    ensures nexts { OnOk result (FitNexts names.now.nets nexts.new.items nl.new.cells) }
-    ensures acts { OnOk result (ActsItems from names.now.nets nets.now nl.new.cells nexts.old.items nexts.new.items (map (item_tree names.now.words) items.now)) }
+    ensures nexts { OnOk result (FitNexts names.now.nets nexts.new nl.new.cells) }
+    ensures acts { OnOk result (ActsItems from names.now.nets nets.now nl.new.cells nexts.old nexts.new (map (item_tree names.now.words) items.now)) }
 {
     for item in items {
         act_item(nl, from, names, nets, nexts, item)?;
@@ -101,7 +101,7 @@ fn connect(nl: &mut Netlist, _from: u32, _words: &WordList<'_>, x: &VNet, net: N
 }
 
 /// Connects each register and each memory to what it takes.
-fn connect_all(nl: &mut Netlist, from: u32, m: &VModule<'_>, nets: &[Option<NetId>], nexts: &[Next])
+fn connect_all(nl: &mut Netlist, from: u32, m: &VModule<'_>, nets: &[Option<NetId>], nexts: &Nexts)
     requires long { length nets.now ≡ length (module_tree m.now).nets }
     requires unconnected { AreUnconnected (module_tree m.now) from nets.now nl.old.cells }
     requires fits { FitNexts (module_tree m.now).nets nexts.now nl.old.cells }
@@ -110,19 +110,11 @@ fn connect_all(nl: &mut Netlist, from: u32, m: &VModule<'_>, nets: &[Option<NetI
     ensures fits { FitNexts (module_tree m.now).nets nexts.now nl.new.cells }
     ensures connected { (p : ℕ) (x : NetTree) (y : NetId) (k : Next) → NetAt (module_tree m.now) p x → slice_get nets.now p ≡ Some (Some y) → slice_get nexts.now p ≡ Some k → IsConnected x.kind nl.new.cells y.0 x.width k }
 {
-    for place in 0..nexts.len() {
+    for place in 0..nets.len() {
         if let Some(net) = nets[place] {
-            connect(nl, from, &m.words, &m.nets[place], net, nexts[place]);
+            connect(nl, from, &m.words, &m.nets[place], net, nexts.at(place));
         }
     }
-}
-
-/// What registers and memories take where nothing is assigned.
-fn unassigned(alloc: Global, count: usize) -> Result<Vec<Next>, AllocError>
-    ensures { IfOk result (λ nexts. nexts.items ≡ replicate count Next.Keep) }
-{
-    let nexts = vec![in alloc; Next::Keep; count]?;
-    Ok(nexts)
 }
 
 /// Connects each register and each memory to what it takes at a clock edge: at most 8 cells for each unit of the weight
@@ -147,7 +139,7 @@ pub fn perform(
     ensures few { OnOk result (length nl.new.cells ≤ length nl.old.cells + 8 * sum_by edge_weight (module_tree m.now).items) }
     ensures steps { OnOk result ((at : List ℕ → ℕ) → AreNamed (module_tree m.now).nets nets.now at → (run : List Clock) → IsRun nl.new.cells run → (t : ℕ) → t + 1 < length run → IsStep (module_tree m.now) (read at run t) (read at run (t + 1))) }
 {
-    let mut nexts = unassigned(alloc, m.nets.len())?;
+    let mut nexts = Nexts::none(alloc, m.nets.len());
     act_items(nl, from, names, nets, &mut nexts, &m.items)?;
     connect_all(nl, from, m, nets, &nexts);
     Ok(())

@@ -22,8 +22,8 @@ pub act-returns-in-Set : goal.act-returns-in-Set
 act-returns-in-Set t c =
     let is : numbered_stmt c.args.stmt ≡ n.set c.in-Set.name (numbered c.in-Set.value) = sym c.in-Set.ensures in
     rw is
-    (acted c.args.from c.args.names.now.nets c.args.nets.now c.args.guard c.assign.result c.args.nl.now c.assign.new.nl c.args.nexts.now.items
-    c.assign.new.nexts.items _
+    (acted c.args.from c.args.names.now.nets c.args.nets.now c.args.guard c.assign.result c.args.nl.now c.assign.new.nl c.args.nexts.now
+    c.assign.new.nexts _
     c.assign.ensures.adds c.assign.ensures.nexts c.assign.ensures.others c.assign.ensures.acts)
 
 pub act-returns-in-Put : goal.act-returns-in-Put
@@ -31,14 +31,14 @@ act-returns-in-Put t c =
     let k = c.in-Put in
     let is : numbered_stmt c.args.stmt ≡ n.put k.name (numbered k.at) (numbered k.value) = sym k.ensures in
     rw is
-    (acted c.args.from c.args.names.now.nets c.args.nets.now c.args.guard c.write.result c.args.nl.now c.write.new.nl c.args.nexts.now.items
-    c.write.new.nexts.items _
+    (acted c.args.from c.args.names.now.nets c.args.nets.now c.args.guard c.write.result c.args.nl.now c.write.new.nl c.args.nexts.now
+    c.write.new.nexts _
     c.write.ensures.adds c.write.ensures.nexts c.write.ensures.others c.write.ensures.acts)
 
 pub act-returns-in-End : goal.act-returns-in-End
 act-returns-in-End t c =
     let is : numbered_stmt c.args.stmt ≡ n.block_end = sym c.in-End.ensures in
-    rw is (none_acted c.args.from c.args.names.now.nets c.args.nets.now c.args.guard c.args.nl.now c.args.nexts.now.items c.requires.nexts)
+    rw is (none_acted c.args.from c.args.names.now.nets c.args.nets.now c.args.guard c.args.nl.now c.args.nexts.now c.requires.nexts)
 
 -- a branch
 pub act-act-requires : goal.act-act-requires
@@ -51,7 +51,7 @@ act-act-requires t c =
     let e : stmt_tree ws (numbered_stmt c.args.stmt) ≡ when (expr_tree ws (numbered k.test)) s = ap (stmt_tree ws) is in
     let sound = subst (IsSoundStmt ns) e c.requires.sound in
     let ready = subst (IsReadyStmt ns c.args.nets.now) e c.requires.ready in
-    let fresh = subst (λ u. AreFresh ns c.args.nexts.now.items (stmt_targets u)) e c.requires.fresh in
+    let fresh = subst (λ u. AreFresh ns c.args.nexts.now (stmt_targets u)) e c.requires.fresh in
     let weight = ap (stmt_weight 0) e in
     let heavier = weight_more 0 s in
     let had = c.requires.room in
@@ -80,10 +80,10 @@ act-returns-in_ok-first-in-When t c =
     let is : numbered_stmt c.args.stmt ≡ n.when (numbered k.test) (numbered_stmt k.then) = sym k.ensures in
     on_ok_map c.act.result
     (λ h.
-    subst (λ (u : NumberedStmt). IsActed c.args.from ns c.args.nets.now c.args.guard c.args.nl.now c.act.new.nl c.args.nexts.now.items c.act.new.nexts.items
+    subst (λ (u : NumberedStmt). IsActed c.args.from ns c.args.nets.now c.args.guard c.args.nl.now c.act.new.nl c.args.nexts.now c.act.new.nexts
     (stmt_tree ws u)) (sym is)
-    (when_acted c.args.from ns c.args.nets.now c.args.guard c.args.nl.now c.fails.new.nl c.unless.new.nl c.act.new.nl c.args.nexts.now.items
-    c.act.new.nexts.items
+    (when_acted c.args.from ns c.args.nets.now c.args.guard c.args.nl.now c.fails.new.nl c.unless.new.nl c.act.new.nl c.args.nexts.now
+    c.act.new.nexts
     (expr_tree ws (numbered k.test)) (stmt_tree ws (numbered_stmt k.then)) c.in_ok-zero-in-When.zero c.in_ok-first-in-When.first
     c.in_ok-zero-in-When.ensures.adds c.in_ok-first-in-When.ensures.adds
     c.in_ok-zero-in-When.ensures.word c.in_ok-first-in-When.ensures.word h))
@@ -101,7 +101,7 @@ act-act-requires-in-Either t c =
     let e : stmt_tree ws (numbered_stmt c.args.stmt) ≡ either (expr_tree ws (numbered k.test)) yes no = ap (stmt_tree ws) is in
     let sound = subst (IsSoundStmt ns) e c.requires.sound in
     let ready = subst (IsReadyStmt ns c.args.nets.now) e c.requires.ready in
-    let fresh = subst (λ u. AreFresh ns c.args.nexts.now.items (stmt_targets u)) e c.requires.fresh in
+    let fresh = subst (λ u. AreFresh ns c.args.nexts.now (stmt_targets u)) e c.requires.fresh in
     let weight = ap (stmt_weight 0) e in
     let heavier = weight_more 0 yes in
     let heavier_too = weight_more 0 no in
@@ -119,7 +119,7 @@ act-act-requires-in-Either t c =
       rules,
       sound.1,
       ready.1,
-      fresh_left ns c.args.nexts.now.items (stmt_targets yes) (stmt_targets no) fresh,
+      fresh_left ns c.args.nexts.now (stmt_targets yes) (stmt_targets no) fresh,
       room,
       nets_grow g c.requires.nets,
       nexts_grow g c.requires.nexts,
@@ -137,7 +137,7 @@ act-act-requires-in-Either-2 t c =
     let e : stmt_tree ws (numbered_stmt c.args.stmt) ≡ either (expr_tree ws (numbered k.test)) yes no = ap (stmt_tree ws) is in
     let sound = subst (IsSoundStmt ns) e c.requires.sound in
     let ready = subst (IsReadyStmt ns c.args.nets.now) e c.requires.ready in
-    let fresh = subst (λ u. AreFresh ns c.args.nexts.now.items (stmt_targets u)) e c.requires.fresh in
+    let fresh = subst (λ u. AreFresh ns c.args.nexts.now (stmt_targets u)) e c.requires.fresh in
     let weight = ap (stmt_weight 0) e in
     let heavier = weight_more 0 yes in
     let heavier_too = weight_more 0 no in
@@ -158,7 +158,7 @@ act-act-requires-in-Either-2 t c =
       rules,
       sound.2,
       ready.2,
-      fresh_right ns c.args.nexts.now.items c.act-in-Either.new.nexts.items (stmt_targets yes)
+      fresh_right ns c.args.nexts.now c.act-in-Either.new.nexts (stmt_targets yes)
           (stmt_targets no) fresh c.in_ok-act-in-Either.ensures.others,
       room,
       nets_grow g c.requires.nets,
@@ -174,11 +174,11 @@ act-returns-in_ok-act-in-Either t c =
     let is : numbered_stmt c.args.stmt ≡ n.either (numbered k.test) (numbered_stmt k.then) (numbered_stmt k.otherwise) = sym k.ensures in
     on_ok_map c.act-in-Either-2.result
     (λ h.
-    subst (λ (u : NumberedStmt). IsActed c.args.from ns c.args.nets.now c.args.guard c.args.nl.now c.act-in-Either-2.new.nl c.args.nexts.now.items
-    c.act-in-Either-2.new.nexts.items (stmt_tree ws u)) (sym is)
+    subst (λ (u : NumberedStmt). IsActed c.args.from ns c.args.nets.now c.args.guard c.args.nl.now c.act-in-Either-2.new.nl c.args.nexts.now
+    c.act-in-Either-2.new.nexts (stmt_tree ws u)) (sym is)
     (either_acted c.args.from ns c.args.nets.now c.args.guard c.args.nl.now c.fails-in-Either.new.nl
     c.unless-in-Either.new.nl c.also.new.nl c.act-in-Either.new.nl c.act-in-Either-2.new.nl
-    c.args.nexts.now.items c.act-in-Either.new.nexts.items c.act-in-Either-2.new.nexts.items
+    c.args.nexts.now c.act-in-Either.new.nexts c.act-in-Either-2.new.nexts
     (expr_tree ws (numbered k.test)) (stmt_tree ws (numbered_stmt k.then))
     (stmt_tree ws (numbered_stmt k.otherwise)) c.in_ok-zero-in-Either.zero c.in_ok-first-in-Either.first c.in_ok-second-in-Either.second
     c.in_ok-zero-in-Either.ensures.adds c.in_ok-first-in-Either.ensures.adds c.in_ok-second-in-Either.ensures.adds
@@ -199,7 +199,7 @@ act_all-act-requires t c =
       rules,
       c.requires.sound.0,
       c.requires.ready.0,
-      fresh_left ns c.args.nexts.now.items (stmt_targets first) (stmt_targets rest) c.requires.fresh,
+      fresh_left ns c.args.nexts.now (stmt_targets first) (stmt_targets rest) c.requires.fresh,
       room,
     )
 
@@ -211,9 +211,9 @@ act_all-next-init t c =
     let rest = tree (numbered_stmt c.args.rest) in
     let whole = block_more first rest in
     let e = c.in_ok-act.ensures in (
-      acting_step c.args.from ns c.args.nets.now c.args.guard c.args.nl.now c.args.nexts.now.items whole c.args.nl.now c.act.new.nl c.args.nexts.now.items
-          c.act.new.nexts.items first rest
-          (acting_first c.args.from ns c.args.nets.now c.args.guard c.args.nl.now c.args.nexts.now.items whole c.requires.sound c.requires.ready
+      acting_step c.args.from ns c.args.nets.now c.args.guard c.args.nl.now c.args.nexts.now whole c.args.nl.now c.act.new.nl c.args.nexts.now
+          c.act.new.nexts first rest
+          (acting_first c.args.from ns c.args.nets.now c.args.guard c.args.nl.now c.args.nexts.now whole c.requires.sound c.requires.ready
           c.requires.nexts c.requires.fresh)
           e.adds e.nexts e.others e.acts,
       omega arith,
@@ -228,9 +228,9 @@ act_all-act-requires-in-Then t c =
     let s = tree (numbered_stmt k.stmt) in
     let rest = tree (numbered_stmt k.more) in
     let is : numbered_stmt c.next.left ≡ n.block_more (numbered_stmt k.stmt) (numbered_stmt k.more) = sym k.ensures in
-    let here : IsActing c.args.from ns c.args.nets.now c.args.guard c.args.nl.now c.next.nl c.args.nexts.now.items c.next.nexts.items whole
-    (block_more s rest) = subst (λ (u : NumberedStmt). IsActing c.args.from ns c.args.nets.now c.args.guard c.args.nl.now c.next.nl c.args.nexts.now.items
-    c.next.nexts.items whole (tree u)) is c.next.invariant.0 in
+    let here : IsActing c.args.from ns c.args.nets.now c.args.guard c.args.nl.now c.next.nl c.args.nexts.now c.next.nexts whole
+    (block_more s rest) = subst (λ (u : NumberedStmt). IsActing c.args.from ns c.args.nets.now c.args.guard c.args.nl.now c.next.nl c.args.nexts.now
+    c.next.nexts whole (tree u)) is c.next.invariant.0 in
     let sound = here.sound in
     let ready = here.ready in
     let had = c.requires.room in
@@ -243,7 +243,7 @@ act_all-act-requires-in-Then t c =
       sound.0,
       ready.0,
       here.nexts,
-      next_fresh c.args.from ns c.args.nets.now c.args.guard c.args.nl.now c.args.nexts.now.items whole c.next.nl c.next.nexts.items s rest here,
+      next_fresh c.args.from ns c.args.nets.now c.args.guard c.args.nl.now c.args.nexts.now whole c.next.nl c.next.nexts s rest here,
       room,
       nets_grow here.grows c.requires.nets,
       guard_net_grows c.args.guard here.grows c.requires.guard,
@@ -258,14 +258,14 @@ act_all-next-preserved t c =
     let s = tree (numbered_stmt k.stmt) in
     let rest = tree (numbered_stmt k.more) in
     let is : numbered_stmt c.next.left ≡ n.block_more (numbered_stmt k.stmt) (numbered_stmt k.more) = sym k.ensures in
-    let here : IsActing c.args.from ns c.args.nets.now c.args.guard c.args.nl.now c.next.nl c.args.nexts.now.items c.next.nexts.items whole
-    (block_more s rest) = subst (λ (u : NumberedStmt). IsActing c.args.from ns c.args.nets.now c.args.guard c.args.nl.now c.next.nl c.args.nexts.now.items
-    c.next.nexts.items whole (tree u)) is c.next.invariant.0 in
+    let here : IsActing c.args.from ns c.args.nets.now c.args.guard c.args.nl.now c.next.nl c.args.nexts.now c.next.nexts whole
+    (block_more s rest) = subst (λ (u : NumberedStmt). IsActing c.args.from ns c.args.nets.now c.args.guard c.args.nl.now c.next.nl c.args.nexts.now
+    c.next.nexts whole (tree u)) is c.next.invariant.0 in
     let parts = ap parts_in_stmt is in
     let fewer = c.next.invariant.1 in
     let e = c.in_ok-act-in-Then.ensures in (
-      acting_step c.args.from ns c.args.nets.now c.args.guard c.args.nl.now c.args.nexts.now.items whole c.next.nl c.act-in-Then.new.nl
-          c.next.nexts.items c.act-in-Then.new.nexts.items s rest here e.adds e.nexts e.others e.acts,
+      acting_step c.args.from ns c.args.nets.now c.args.guard c.args.nl.now c.args.nexts.now whole c.next.nl c.act-in-Then.new.nl
+          c.next.nexts c.act-in-Then.new.nexts s rest here e.adds e.nexts e.others e.acts,
       omega arith,
     )
 
@@ -276,6 +276,6 @@ act_all-returns-in_default t c =
     let whole = block_more (tree (numbered_stmt c.args.first)) (tree (numbered_stmt c.args.rest)) in
     let last = c.act-in_default in
     on_ok_map last.result
-    (λ h. acting_last c.args.from ns c.args.nets.now c.args.guard c.args.nl.now c.args.nexts.now.items whole c.next.nl last.new.nl c.next.nexts.items
-    last.new.nexts.items (tree (numbered_stmt c.next.left)) c.next.invariant.0 h)
+    (λ h. acting_last c.args.from ns c.args.nets.now c.args.guard c.args.nl.now c.args.nexts.now whole c.next.nl last.new.nl c.next.nexts
+    last.new.nexts (tree (numbered_stmt c.next.left)) c.next.invariant.0 h)
     last.ensures

@@ -16,7 +16,7 @@ decreases-act_all l = 2 * (parts_in_stmt (numbered_stmt l.first) + parts_in_stmt
 abbrev pub invariant-act_all-next : goal.invariant-act_all-next
 invariant-act_all-next l =
     let tree = stmt_tree l.names.words in
-    IsActing l.from l.names.nets l.nets l.guard l.fn.nl l.nl l.fn.nexts.items l.nexts.items
+    IsActing l.from l.names.nets l.nets l.guard l.fn.nl l.nl l.fn.nexts l.nexts
     (block_more (tree (numbered_stmt l.fn.first)) (tree (numbered_stmt l.fn.rest))) (tree (numbered_stmt l.left))
     × (parts_in_stmt (numbered_stmt l.left) ≤ parts_in_stmt (numbered_stmt l.fn.rest))
 

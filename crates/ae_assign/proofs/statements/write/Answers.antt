@@ -11,21 +11,21 @@ use Rattle.ae_assign.proofs.EdgeLaws.{write_acts, guard_grows, next_other}
 use Rattle.ae_assign.proofs.EdgeFits.{address_grows, memory_fits, next_inside, nexts_set}
 use Rattle.ae_assign.proofs.statements.write.Goals as goal
 
-pub index_mut-requires : goal.index_mut-requires
-index_mut-requires c =
-    let inside : place_of c.args.names.now.nets (word_at c.args.names.now.words c.args.name) < length c.args.nexts.now.items = next_inside
-    c.args.names.now.nets c.args.nexts.now.items
+pub set-requires : goal.set-requires
+set-requires c =
+    let inside : place_of c.args.names.now.nets (word_at c.args.names.now.words c.args.name) < length c.args.nexts.now = next_inside
+    c.args.names.now.nets c.args.nexts.now
     c.args.nl.now.cells (word_at c.args.names.now.words c.args.name) c.requires.sound.0.0 c.requires.nexts in
     let e = c.place_of-place.ensures in
-    omega arith
+    record { inside = omega arith }
 
 pub returns-clause-nexts : goal.returns-clause-nexts
 returns-clause-nexts c =
     let here = c.requires.sound.0.0 in
     let later = grows_trans c.in_ok-word.ensures.adds.grows c.in_ok-enable.ensures.adds.grows in
     let g = grows_trans c.in_ok-at.ensures.adds.grows later in
-    rw c.place_of-place.ensures
-    (nexts_set c.args.names.now.nets c.args.nexts.now.items (word_at c.args.names.now.words c.args.name) here c.args.nl.now c.reached.new.nl
+    rw (c.in_ok-set.ensures.ok, c.place_of-place.ensures)
+    (nexts_set c.args.names.now.nets c.args.nexts.now (word_at c.args.names.now.words c.args.name) here c.args.nl.now c.reached.new.nl
     (Write c.in_ok-at.at c.in_ok-word.word c.in_ok-enable.enable) g c.requires.nexts
     (memory_fits c.args.names.now.nets (word_at c.args.names.now.words c.args.name) here c.reached.new.nl.cells c.in_ok-at.at c.in_ok-word.word
     c.in_ok-enable.enable c.name_width-width.result
@@ -36,16 +36,16 @@ returns-clause-nexts c =
 
 pub returns-clause-others : goal.returns-clause-others
 returns-clause-others c = λ n none.
-    rw c.place_of-place.ensures
-    (next_other c.args.names.now.nets c.args.nexts.now.items (word_at c.args.names.now.words c.args.name) c.requires.sound.0.0 c.requires.nexts.long
+    rw (c.in_ok-set.ensures.ok, c.place_of-place.ensures)
+    (next_other c.args.names.now.nets c.args.nexts.now (word_at c.args.names.now.words c.args.name) c.requires.sound.0.0 c.requires.nexts.long
     (Write c.in_ok-at.at c.in_ok-word.word c.in_ok-enable.enable) n (λ e. none (inl (sym e))))
 
 pub returns-clause-acts : goal.returns-clause-acts
 returns-clause-acts c =
     let ns = c.args.names.now.nets in
     let later = grows_trans c.in_ok-word.ensures.adds.grows c.in_ok-enable.ensures.adds.grows in
-    rw c.place_of-place.ensures
-    (write_acts c.args.from ns c.args.nets.now c.args.guard c.args.nl.now.cells c.reached.new.nl.cells c.args.nexts.now.items
+    rw (c.in_ok-set.ensures.ok, c.place_of-place.ensures)
+    (write_acts c.args.from ns c.args.nets.now c.args.guard c.args.nl.now.cells c.reached.new.nl.cells c.args.nexts.now
     (word_at c.args.names.now.words c.args.name)
     (expr_tree c.args.names.now.words (numbered c.args.at)) (expr_tree c.args.names.now.words (numbered c.args.value))
     c.in_ok-at.at c.in_ok-word.word c.in_ok-enable.enable c.name_width-width.result

@@ -13,6 +13,6 @@ returns-in_ok-act-in-Always-clause-acts c =
     let ws = c.args.names.now.words in
     let e : item_tree ws c.args.item.now ≡ always (word_at ws c.in-Always.clock) (stmt_tree ws (numbered_stmt c.in-Always.body)) =
     ap (item_tree ws) (sym c.parts.ensures) ∙ ap (λ (x : ItemParts). item_tree ws (parts_item x)) c.in-Always.is in
-    subst (λ i. ActsItems c.args.from c.args.names.now.nets c.args.nets.now c.act.new.nl.cells c.args.nexts.now.items c.act.new.nexts.items (i ∷ [])) (sym e)
-    (always_acts c.args.from c.args.names.now.nets c.args.nets.now c.args.nl.now.cells c.act.new.nl.cells c.args.nexts.now.items c.act.new.nexts.items
+    subst (λ i. ActsItems c.args.from c.args.names.now.nets c.args.nets.now c.act.new.nl.cells c.args.nexts.now c.act.new.nexts (i ∷ [])) (sym e)
+    (always_acts c.args.from c.args.names.now.nets c.args.nets.now c.args.nl.now.cells c.act.new.nl.cells c.args.nexts.now c.act.new.nexts
     (word_at ws c.in-Always.clock) (stmt_tree ws (numbered_stmt c.in-Always.body)) c.in_ok-act-in-Always.ensures.acts)

@@ -15,8 +15,8 @@ act_item-requires c =
     let rest = drop (c.loop-item.item-index + 1) (map (item_tree c.args.names.now.words) c.args.items.now) in
     let whole = map (item_tree c.args.names.now.words) c.args.items.now in
     let i = item_tree c.args.names.now.words c.item-item.result in
-    let here = subst (λ u. AreActing c.args.from c.args.names.now.nets c.args.nets.now c.args.nl.now c.loop-item.nl c.args.nexts.now.items
-    c.loop-item.nexts.items
+    let here = subst (λ u. AreActing c.args.from c.args.names.now.nets c.args.nets.now c.args.nl.now c.loop-item.nl c.args.nexts.now
+    c.loop-item.nexts
     whole u) turn c.loop-item.invariant in
     let had = c.requires.room in
     let few = here.few in
@@ -29,8 +29,8 @@ act_item-requires c =
       rules,
       active.0,
       here.nexts,
-      items_fresh c.args.from c.args.names.now.nets c.args.nets.now c.args.nl.now c.args.nexts.now.items whole c.loop-item.nl
-          c.loop-item.nexts.items i rest here,
+      items_fresh c.args.from c.args.names.now.nets c.args.nets.now c.args.nl.now c.args.nexts.now whole c.loop-item.nl
+          c.loop-item.nexts i rest here,
       room,
       nets_grow here.grows c.requires.nets,
     )
@@ -41,12 +41,12 @@ loop-item-preserved c =
     let turn = drop_turn (item_tree c.args.names.now.words) c.args.items.now c.loop-item.item-index c.item-item.result l c.item-item.is in
     let rest = drop (c.loop-item.item-index + 1) (map (item_tree c.args.names.now.words) c.args.items.now) in
     let whole = map (item_tree c.args.names.now.words) c.args.items.now in
-    let here = subst (λ u. AreActing c.args.from c.args.names.now.nets c.args.nets.now c.args.nl.now c.loop-item.nl c.args.nexts.now.items
-    c.loop-item.nexts.items
+    let here = subst (λ u. AreActing c.args.from c.args.names.now.nets c.args.nets.now c.args.nl.now c.loop-item.nl c.args.nexts.now
+    c.loop-item.nexts
     whole u) turn c.loop-item.invariant in
-    items_step c.args.from c.args.names.now.nets c.args.nets.now c.args.nl.now c.args.nexts.now.items whole c.loop-item.nl c.act_item.new.nl
-    c.loop-item.nexts.items
-    c.act_item.new.nexts.items (item_tree c.args.names.now.words c.item-item.result) rest here
+    items_step c.args.from c.args.names.now.nets c.args.nets.now c.args.nl.now c.args.nexts.now whole c.loop-item.nl c.act_item.new.nl
+    c.loop-item.nexts
+    c.act_item.new.nexts (item_tree c.args.names.now.words c.item-item.result) rest here
     c.in_ok-act_item.ensures.adds.grows c.in_ok-act_item.ensures.adds.more c.in_ok-act_item.ensures.adds.few
     c.in_ok-act_item.ensures.nexts c.in_ok-act_item.ensures.others c.in_ok-act_item.ensures.acts
 
@@ -54,7 +54,7 @@ pub returns-clause-acts : goal.returns-clause-acts
 returns-clause-acts c =
     let whole = map (item_tree c.args.names.now.words) c.args.items.now in
     let done = drop_done (item_tree c.args.names.now.words) c.args.items.now c.loop-item.item-index (omega arith) in
-    items_done c.args.from c.args.names.now.nets c.args.nets.now c.args.nl.now c.args.nexts.now.items whole c.loop-item.nl c.loop-item.nexts.items
-    (subst (λ u. AreActing c.args.from c.args.names.now.nets c.args.nets.now c.args.nl.now c.loop-item.nl c.args.nexts.now.items c.loop-item.nexts.items whole
+    items_done c.args.from c.args.names.now.nets c.args.nets.now c.args.nl.now c.args.nexts.now whole c.loop-item.nl c.loop-item.nexts
+    (subst (λ u. AreActing c.args.from c.args.names.now.nets c.args.nets.now c.args.nl.now c.loop-item.nl c.args.nexts.now c.loop-item.nexts whole
     u)
     done c.loop-item.invariant)

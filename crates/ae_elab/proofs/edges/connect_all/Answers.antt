@@ -1,8 +1,7 @@
-use Rattle.std.proofs.Common.{◌<◌, ◌+◌, length, get_or, Some, None, arith, sym, ap, ◌∙◌, subst}
+use Rattle.std.proofs.Common.{◌<◌, ◌+◌, length, Some, None, arith, sym, ap, ◌∙◌, subst}
 use Rattle.std.proofs.lemmas.List.{length-map}
 use Rattle.std.proofs.lemmas.Option.{slice_get-get_or, slice_get_within}
 use Rattle.ae_vmodule.specs.View.{module_tree, net_tree}
-use Rattle.ae_assign.specs.declared.statements.Next.TheVariants.{Keep}
 use Rattle.ae_order.proofs.Turns.{at_turn}
 use Rattle.ae_elab.proofs.EdgeJoins.{AreJoined, joins_step, joins_none}
 use Rattle.ae_elab.proofs.edges.connect_all.Goals as goal
@@ -40,7 +39,7 @@ connect-requires-clause-fits c =
     let many = c.requires.fits.long in
     let l : c.loop-place.place < length c.args.m.now.nets.items = omega arith in
     let here = at_turn (net_tree c.args.m.now.words) c.args.m.now.nets.items k c.index.result.now l c.index.ensures in
-    c.loop-place.invariant.fits.each k (net_tree c.args.m.now.words c.index.result.now) _ here (slice_get-get_or c.args.nexts.now k Keep c.loop-place-test.true)
+    c.loop-place.invariant.fits.each k (net_tree c.args.m.now.words c.index.result.now) _ here c.at.ensures
 
 pub loop-place-preserved : goal.loop-place-preserved
 loop-place-preserved c =
@@ -51,7 +50,6 @@ loop-place-preserved c =
     let many = c.requires.fits.long in
     let l : c.loop-place.place < length c.args.m.now.nets.items = omega arith in
     let n : c.loop-place.place < length c.args.nets.now = omega arith in
-    let next = slice_get-get_or c.args.nexts.now k Keep c.loop-place-test.true in
     elim c.match-nets-place.branch [
       | in-Some w ↦
           let here = at_turn (net_tree c.args.m.now.words) c.args.m.now.nets.items k w.index.result.now l w.index.ensures in
@@ -59,7 +57,7 @@ loop-place-preserved c =
           let e = w.connect.ensures in
           subst (λ a. AreJoined c.args.from m c.args.nets.now c.args.nexts.now c.args.nl.now a (k + 1)) (sym w.nl-is)
           (joins_step c.args.from m c.args.nets.now c.args.nexts.now c.args.nl.now c.requires.unconnected c.loop-place.nl w.connect.new.nl k
-          (net_tree c.args.m.now.words w.index.result.now) w.in-Some.net (get_or c.args.nexts.now k Keep) c.loop-place.invariant here net next
+          (net_tree c.args.m.now.words w.index.result.now) w.in-Some.net w.at.result c.loop-place.invariant here net w.at.ensures
           (record { connects = e.connects; long = e.long; constants = e.constants; others = e.others; stays = e.stays; connected = e.connected }))
       | in_default w ↦
           subst (λ a. AreJoined c.args.from m c.args.nets.now c.args.nexts.now c.args.nl.now a (k + 1)) (sym w.nl-is)
@@ -70,4 +68,6 @@ loop-place-preserved c =
 pub returns-clause-connected : goal.returns-clause-connected
 returns-clause-connected c = λ p x y n here net next.
     let l = slice_get_within c.args.nexts.now p n next in
+    let long = c.requires.long in
+    let many = c.requires.fits.long in
     c.loop-place.invariant.done p x y n (omega arith) here net next

@@ -17,11 +17,11 @@ act_items-requires c =
     let m = module_tree c.args.m.now in
     let items : map (item_tree c.args.m.now.words) c.deref.result.now ≡ (module_tree c.args.m.now).items = ap
     (map (item_tree c.args.m.now.words)) c.deref.ensures.value in
-    let nexts : c.in_ok-nexts.nexts.items ≡ first_nexts (module_tree c.args.m.now).nets =
+    let nexts : c.none-nexts.result ≡ first_nexts (module_tree c.args.m.now).nets =
     (let all = length-map c.args.m.now.nets.items (net_tree c.args.m.now.words) in
     let count = c.len.ensures in
     let e : c.len.result ≡ length (module_tree c.args.m.now).nets = omega arith in
-    c.in_ok-nexts.ensures ∙ ap (λ n. replicate n Keep) e) in
+    c.none-nexts.ensures ∙ ap (λ n. replicate n Keep) e) in
     rw (c.requires.names, items, nexts) (record {
       from = c.requires.from;
       nets = c.requires.nets;
@@ -36,7 +36,7 @@ connect_all-requires c = record {
   long = c.requires.nets.long;
   unconnected = unconnected_grows (module_tree c.args.m.now) c.args.from c.args.nets.now c.args.nl.now c.act_items.new.nl c.in_ok-act_items.ensures.grows
       c.requires.free;
-  fits = rw (sym (table_nets c.requires.names)) (rw c.deref-2.ensures.value c.in_ok-act_items.ensures.nexts);
+  fits = rw (sym (table_nets c.requires.names)) c.in_ok-act_items.ensures.nexts;
 }
 
 pub returns-clause-connects : goal.returns-clause-connects
@@ -57,14 +57,14 @@ returns-clause-steps c = λ at named run is t l.
     let m = module_tree c.args.m.now in
     let items : map (item_tree c.args.m.now.words) c.deref.result.now ≡ (module_tree c.args.m.now).items = ap
     (map (item_tree c.args.m.now.words)) c.deref.ensures.value in
-    let nexts : c.in_ok-nexts.nexts.items ≡ first_nexts (module_tree c.args.m.now).nets =
+    let nexts : c.none-nexts.result ≡ first_nexts (module_tree c.args.m.now).nets =
     (let all = length-map c.args.m.now.nets.items (net_tree c.args.m.now.words) in
     let count = c.len.ensures in
     let e : c.len.result ≡ length (module_tree c.args.m.now).nets = omega arith in
-    c.in_ok-nexts.ensures ∙ ap (λ n. replicate n Keep) e) in
+    c.none-nexts.ensures ∙ ap (λ n. replicate n Keep) e) in
     let acts : ActsItems c.args.from (module_tree c.args.m.now).nets c.args.nets.now c.act_items.new.nl.cells
-    (first_nexts (module_tree c.args.m.now).nets) c.deref-2.result.now (module_tree c.args.m.now).items =
-    rw (c.requires.names, items, nexts, sym c.deref-2.ensures.value) at c.in_ok-act_items.ensures.acts in
-    edge_steps m c.requires.regular c.requires.shape c.args.from c.args.nets.now c.deref-2.result.now c.act_items.new.nl c.connect_all.new.nl c.requires.each
+    (first_nexts (module_tree c.args.m.now).nets) c.act_items.new.nexts (module_tree c.args.m.now).items =
+    rw (c.requires.names, items, nexts) at c.in_ok-act_items.ensures.acts in
+    edge_steps m c.requires.regular c.requires.shape c.args.from c.args.nets.now c.act_items.new.nexts c.act_items.new.nl c.connect_all.new.nl c.requires.each
     c.connect_all.ensures.connects c.connect_all.ensures.fits c.connect_all.ensures.connected
-    (items_next m c.args.from c.args.nets.now c.act_items.new.nl.cells c.deref-2.result.now acts) at named run is t l
+    (items_next m c.args.from c.args.nets.now c.act_items.new.nl.cells c.act_items.new.nexts acts) at named run is t l
