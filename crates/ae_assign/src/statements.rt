@@ -17,7 +17,7 @@ ghost use Rattle.ae_order.specs.Sound.{IsReadyFor, IsSound};
 ghost use Rattle.ae_assign.specs.Edges.{Acts, AreFresh, FitNexts, IsActed, IsAddressWord, IsGuard, IsGuardNet, IsReadyStmt, IsSoFar, IsSoundStmt, IsWordNext, OthersKeep};
 
 use crate::nexts::Nexts;
-use ae_express::{address, given_word, name_width, net_of, own_word};
+use ae_express::{MaybeNet, address, given_word, name_width, net_of, own_word};
 use ae_gates::{fixed, gate, is_zero, select};
 use ae_judge::Names;
 use ae_netlist::{NetId, Netlist};
@@ -47,7 +47,7 @@ fn fails(
     nl: &mut Netlist,
     from: u32,
     names: &Names<'_>,
-    nets: &[Option<NetId>],
+    nets: &[MaybeNet],
     test: Expr<'_>,
 ) -> Result<NetId, AllocError>
     requires from { from ≤ length nl.old.cells }
@@ -163,7 +163,7 @@ fn assign(
     nl: &mut Netlist,
     from: u32,
     names: &Names<'_>,
-    nets: &[Option<NetId>],
+    nets: &[MaybeNet],
     nexts: &mut Nexts,
     guard: Option<NetId>,
     name: u32,
@@ -196,7 +196,7 @@ fn written_at(
     nl: &mut Netlist,
     from: u32,
     names: &Names<'_>,
-    nets: &[Option<NetId>],
+    nets: &[MaybeNet],
     _name: u32,
     at: Expr<'_>,
 ) -> Result<NetId, AllocError>
@@ -225,7 +225,7 @@ fn write(
     nl: &mut Netlist,
     from: u32,
     names: &Names<'_>,
-    nets: &[Option<NetId>],
+    nets: &[MaybeNet],
     nexts: &mut Nexts,
     guard: Option<NetId>,
     name: u32,
@@ -261,7 +261,7 @@ pub fn act(
     nl: &mut Netlist,
     from: u32,
     names: &Names<'_>,
-    nets: &[Option<NetId>],
+    nets: &[MaybeNet],
     nexts: &mut Nexts,
     guard: Option<NetId>,
     stmt: Stmt<'_>,
@@ -305,7 +305,7 @@ fn act_all(
     nl: &mut Netlist,
     from: u32,
     names: &Names<'_>,
-    nets: &[Option<NetId>],
+    nets: &[MaybeNet],
     nexts: &mut Nexts,
     guard: Option<NetId>,
     first: Stmt<'_>,

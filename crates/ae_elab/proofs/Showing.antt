@@ -55,8 +55,9 @@ shown_few false net outlets k h = omega arith
 shown_few true None outlets k h = omega arith
 shown_few true (Some y) outlets k h = let e = length-append outlets ((record { port = Plain (length outlets); net = y }) ∷ []) in omega arith
 
-pub got : {X : Type 0} (xs : List X) (i : ℕ) (d x : X) → i < length xs → get_or xs i d ≡ x → slice_get xs i ≡ Some x
-got xs i d x l h = slice_get-get_or xs i d l ∙ ap Some h
+-- what the code reads, and what it then has
+pub read_there : {X : Type 0} (xs : List X) (i : ℕ) (x y : X) → i < length xs → x ≡ get_or xs i x → y ≡ x → slice_get xs i ≡ Some y
+read_there xs i x y l h e = slice_get-get_or xs i x l ∙ ap Some (sym h ∙ sym e)
 
 pub got_or : {X : Type 0} (xs : List X) (i : ℕ) (d x : X) → slice_get xs i ≡ Some x → get_or xs i d ≡ x
 got_or xs i d x h =

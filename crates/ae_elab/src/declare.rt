@@ -11,6 +11,7 @@ ghost use Rattle.ae_judge.specs.Shape.{IsShapely};
 ghost use Rattle.ae_netlist.specs.Room.{HasRoom};
 ghost use Rattle.ae_elab.specs.Declaring.{AddsCell, AreDeclared, given_cell};
 
+use ae_express::MaybeNet;
 use ae_judge::{Names, clock_of, is_named};
 use ae_netlist::{Cell, NetId, Netlist, Port};
 use ae_vmodule::{NetKind, VModule, VNet};
@@ -40,7 +41,7 @@ fn push_memory(nl: &mut Netlist, width: u32, depth: u32) -> Result<NetId, AllocE
 }
 
 /// The net of a name, if it has one before any equation is looked at. Inputs are plain ports, numbered as they come.
-fn declare(nl: &mut Netlist, net: &VNet, is_clock: bool) -> Result<Option<NetId>, AllocError>
+fn declare(nl: &mut Netlist, net: &VNet, is_clock: bool) -> Result<MaybeNet, AllocError>
     requires low { 1 ≤ net.now.width }
     requires high { net.now.width ≤ 64 }
     requires deep { (depth : ℕ) → net.now.kind ≡ Memory depth → (1 ≤ depth) × (depth ≤ 65536) }
@@ -48,22 +49,22 @@ fn declare(nl: &mut Netlist, net: &VNet, is_clock: bool) -> Result<Option<NetId>
     ensures { IfOk result (λ found. AddsCell (given_cell net.now.kind is_clock (length nl.old.cells) (count_of is_input nl.old.cells) net.now.width) nl.old nl.new found) }
 {
     match net.kind {
-        NetKind::Wire | NetKind::OutWire => Ok(None),
+        NetKind::Wire | NetKind::OutWire => Ok(MaybeNet::none()),
         NetKind::Input => {
             if is_clock {
-                return Ok(None);
+                return Ok(MaybeNet::none());
             }
             let port = nl.inputs();
             let input = nl.push(Width { bits: net.width }, Cell::Input(Port::Plain(port)))?;
-            Ok(Some(input))
+            Ok(MaybeNet::of(nl, input))
         }
         NetKind::Reg | NetKind::OutReg => {
             let register = push_register(nl, net.width)?;
-            Ok(Some(register))
+            Ok(MaybeNet::of(nl, register))
         }
         NetKind::Memory(depth) => {
             let memory = push_memory(nl, net.width, depth)?;
-            Ok(Some(memory))
+            Ok(MaybeNet::of(nl, memory))
         }
     }
 }
@@ -75,7 +76,7 @@ pub fn declare_nets(
     nl: &mut Netlist,
     names: &Names<'_>,
     m: &VModule<'_>,
-) -> Result<Vec<Option<NetId>>, AllocError>
+) -> Result<Vec<MaybeNet>, AllocError>
     requires names { names.now ≡ table_of m.now.words m.now.nets.items }
     requires shape { IsShapely (module_tree m.now) }
     requires regular { IsRegular (module_tree m.now) }

@@ -19,6 +19,7 @@ ghost use Rattle.ae_elab.specs.Connecting.{Connects};
 ghost use Rattle.ae_assign.specs.Edges.{ActsItems, AreFresh, FitNexts, FitsNext, IsActiveItem, IsConnected, KeepsConstants, OthersKeep, OthersStay, edge_weight};
 
 use ae_assign::{Next, Nexts, act};
+use ae_express::MaybeNet;
 use ae_judge::Names;
 use ae_netlist::{NetId, Netlist};
 use ae_vmodule::{ItemParts, VItem, VModule, VNet, WordList};
@@ -30,7 +31,7 @@ fn act_item(
     nl: &mut Netlist,
     from: u32,
     names: &Names<'_>,
-    nets: &[Option<NetId>],
+    nets: &[MaybeNet],
     nexts: &mut Nexts,
     item: &VItem,
 ) -> Result<(), AllocError>
@@ -60,7 +61,7 @@ fn act_items(
     nl: &mut Netlist,
     from: u32,
     names: &Names<'_>,
-    nets: &[Option<NetId>],
+    nets: &[MaybeNet],
     nexts: &mut Nexts,
     items: &[VItem],
 ) -> Result<(), AllocError>
@@ -101,7 +102,7 @@ fn connect(nl: &mut Netlist, _from: u32, _words: &WordList<'_>, x: &VNet, net: N
 }
 
 /// Connects each register and each memory to what it takes.
-fn connect_all(nl: &mut Netlist, from: u32, m: &VModule<'_>, nets: &[Option<NetId>], nexts: &Nexts)
+fn connect_all(nl: &mut Netlist, from: u32, m: &VModule<'_>, nets: &[MaybeNet], nexts: &Nexts)
     requires long { length nets.now ≡ length (module_tree m.now).nets }
     requires unconnected { AreUnconnected (module_tree m.now) from nets.now nl.old.cells }
     requires fits { FitNexts (module_tree m.now).nets nexts.now nl.old.cells }
@@ -111,7 +112,7 @@ fn connect_all(nl: &mut Netlist, from: u32, m: &VModule<'_>, nets: &[Option<NetI
     ensures connected { (p : ℕ) (x : NetTree) (y : NetId) (k : Next) → NetAt (module_tree m.now) p x → slice_get nets.now p ≡ Some (Some y) → slice_get nexts.now p ≡ Some k → IsConnected x.kind nl.new.cells y.0 x.width k }
 {
     for place in 0..nets.len() {
-        if let Some(net) = nets[place] {
+        if let Some(net) = nets[place].net() {
             connect(nl, from, &m.words, &m.nets[place], net, nexts.at(place));
         }
     }
@@ -125,7 +126,7 @@ pub fn perform(
     from: u32,
     names: &Names<'_>,
     m: &VModule<'_>,
-    nets: &[Option<NetId>],
+    nets: &[MaybeNet],
 ) -> Result<(), AllocError>
     requires names { names.now ≡ table_of m.now.words m.now.nets.items }
     requires shape { IsShapely (module_tree m.now) }

@@ -12,6 +12,7 @@ ghost use Rattle.ae_judge.specs.Shape.{IsShapely};
 ghost use Rattle.ae_runs.specs.Named.{AreNets};
 ghost use Rattle.ae_elab.specs.Declaring.{ArePlainOutlets, HasNet, is_output, shown, with_nets};
 
+use ae_express::MaybeNet;
 use ae_netlist::{NetId, Netlist, Port};
 use ae_vmodule::{NetKind, VModule};
 use std::alloc::AllocError;
@@ -52,11 +53,7 @@ fn show(nl: &mut Netlist, kind: NetKind, net: Option<NetId>) -> Result<(), Alloc
 }
 
 /// Adds the outputs of a module, in order, each as a plain port.
-pub fn add_outputs(
-    nl: &mut Netlist,
-    m: &VModule<'_>,
-    nets: &[Option<NetId>],
-) -> Result<(), AllocError>
+pub fn add_outputs(nl: &mut Netlist, m: &VModule<'_>, nets: &[MaybeNet]) -> Result<(), AllocError>
     requires shape { IsShapely (module_tree m.now) }
     requires none { nl.old.outlets ≡ [] }
     requires nets { AreNets (module_tree m.now).nets nets.now nl.old.cells }
@@ -66,7 +63,7 @@ pub fn add_outputs(
     ensures plain { OnOk result (ArePlainOutlets nl.new.outlets) }
 {
     for place in 0..m.nets.len() {
-        show(nl, m.nets[place].kind, nets[place])?;
+        show(nl, m.nets[place].kind, nets[place].net())?;
     }
     Ok(())
 }

@@ -16,7 +16,7 @@ ghost use Rattle.ae_order.specs.Drives.{IsWireOrder, value_tree, values_of};
 ghost use Rattle.ae_elab.specs.Declaring.{AreDeclared};
 ghost use Rattle.ae_elab.specs.Wiring.{AreWired, IsWiring, KeepsNets, open_weight};
 
-use ae_express::given_word;
+use ae_express::{MaybeNet, given_word};
 use ae_judge::Names;
 use ae_netlist::{NetId, Netlist};
 use ae_order::Sparse;
@@ -45,11 +45,12 @@ fn net_width(m: &VModule<'_>, place: usize) -> u32
     m.nets[place].width
 }
 
-fn set_net(nets: &mut Vec<Option<NetId>>, place: usize, net: NetId)
+fn set_net(nl: &Netlist, nets: &mut Vec<MaybeNet>, place: usize, net: NetId)
+    requires there { net.0 < length nl.now.cells }
     requires inside { place < length nets.old.items }
     ensures { nets.new.items ≡ slice_set nets.old.items place (Some net) }
 {
-    nets[place] = Some(net);
+    nets[place] = MaybeNet::of(nl, net);
 }
 
 /// The net of the wire whose turn it is; there is none to add for an input, a register or a memory.
@@ -61,7 +62,7 @@ fn add_wire(
     values: &Sparse<Expr<'_>>,
     order: &[u32],
     turn: usize,
-    nets: &mut Vec<Option<NetId>>,
+    nets: &mut Vec<MaybeNet>,
 ) -> Result<(), AllocError>
     requires names { names.now ≡ table_of m.now.words m.now.nets.items }
     requires shape { IsShapely (module_tree m.now) }
@@ -82,7 +83,7 @@ fn add_wire(
         Some(e) => {
             let width = net_width(m, place);
             let y = given_word(nl, from, names, nets, width, e)?;
-            set_net(nets, place, y);
+            set_net(nl, nets, place, y);
             Ok(())
         }
     }
@@ -97,7 +98,7 @@ pub fn add_wires(
     m: &VModule<'_>,
     values: Sparse<Expr<'_>>,
     order: Vec<u32>,
-    nets: &mut Vec<Option<NetId>>,
+    nets: &mut Vec<MaybeNet>,
 ) -> Result<(), AllocError>
     requires names { names.now ≡ table_of m.now.words m.now.nets.items }
     requires shape { IsShapely (module_tree m.now) }

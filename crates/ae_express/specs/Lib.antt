@@ -2,3 +2,4 @@ pub mod Forms
 pub mod Lowered
 pub mod Asked
 pub mod ConstantValue
+pub mod MaybeNets

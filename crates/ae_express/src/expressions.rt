@@ -13,6 +13,7 @@ ghost use Rattle.ae_runs.specs.Named.{AreNets};
 ghost use Rattle.ae_order.specs.Sound.{IsReadyFor, IsSound};
 
 use crate::forms::{combine, fixed_shift, operand_widths};
+use crate::maybe_net::MaybeNet;
 use crate::measure::last_width;
 use crate::own::own_width;
 use crate::reads::{read_name, read_part, read_place, read_word};
@@ -32,7 +33,7 @@ pub fn lower(
     nl: &mut Netlist,
     from: u32,
     names: &Names<'_>,
-    nets: &[Option<NetId>],
+    nets: &[MaybeNet],
     widths: &mut Vec<u32>,
     w: u32,
     e: Expr<'_>,
@@ -101,7 +102,7 @@ fn lower_unary(
     nl: &mut Netlist,
     from: u32,
     names: &Names<'_>,
-    nets: &[Option<NetId>],
+    nets: &[MaybeNet],
     widths: &mut Vec<u32>,
     w: u32,
     op: UnOp,
@@ -140,7 +141,7 @@ fn lower_parts(
     nl: &mut Netlist,
     from: u32,
     names: &Names<'_>,
-    nets: &[Option<NetId>],
+    nets: &[MaybeNet],
     widths: &mut Vec<u32>,
     first: Expr<'_>,
     rest: Expr<'_>,

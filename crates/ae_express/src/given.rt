@@ -13,6 +13,7 @@ ghost use Rattle.ae_gates.specs.Cells.{AddsGates, IsWord};
 ghost use Rattle.ae_express.specs.Lowered.{IsLowered, fitted};
 
 use crate::expressions::lower;
+use crate::maybe_net::MaybeNet;
 use crate::measure::measure;
 use ae_gates::fit;
 use ae_judge::Names;
@@ -26,7 +27,7 @@ fn lower_at_least(
     nl: &mut Netlist,
     from: u32,
     names: &Names<'_>,
-    nets: &[Option<NetId>],
+    nets: &[MaybeNet],
     least: u32,
     e: Expr<'_>,
 ) -> Result<(NetId, u32), AllocError>
@@ -53,7 +54,7 @@ pub fn own_word(
     nl: &mut Netlist,
     from: u32,
     names: &Names<'_>,
-    nets: &[Option<NetId>],
+    nets: &[MaybeNet],
     e: Expr<'_>,
 ) -> Result<(NetId, u32), AllocError>
     requires from { from ≤ length nl.old.cells }
@@ -75,7 +76,7 @@ pub fn given_word(
     nl: &mut Netlist,
     from: u32,
     names: &Names<'_>,
-    nets: &[Option<NetId>],
+    nets: &[MaybeNet],
     width: u32,
     e: Expr<'_>,
 ) -> Result<NetId, AllocError>

@@ -13,6 +13,7 @@ ghost use Rattle.ae_runs.specs.Named.{AreNamed, AreNets, IsNamed, IsReady, place
 ghost use Rattle.ae_order.specs.Sound.{IsWordName, places_of};
 ghost use Rattle.ae_vmodule.specs.View.{word_at};
 
+use crate::maybe_net::MaybeNet;
 use crate::own::name_width;
 use ae_gates::{constant, cut, widen};
 use ae_judge::Names;
@@ -22,12 +23,12 @@ use ae_word::Width;
 use std::alloc::AllocError;
 
 /// The net of a name that has one.
-pub fn net_of(names: &Names<'_>, nets: &[Option<NetId>], name: u32) -> NetId
+pub fn net_of(names: &Names<'_>, nets: &[MaybeNet], name: u32) -> NetId
     requires named { IsNamed names.now.nets (word_at names.now.words name) }
     requires ready { IsReady names.now.nets nets.now (word_at names.now.words name) }
     ensures { slice_get nets.now (place_of names.now.nets (word_at names.now.words name)) ≡ Some (Some result) }
 {
-    match nets[place_of(names, name)] {
+    match nets[place_of(names, name)].net() {
         Some(net) => net,
         None => unreachable!(),
     }
@@ -38,7 +39,7 @@ pub fn read_name(
     nl: &mut Netlist,
     from: u32,
     names: &Names<'_>,
-    nets: &[Option<NetId>],
+    nets: &[MaybeNet],
     w: u32,
     name: u32,
 ) -> Result<NetId, AllocError>
@@ -64,7 +65,7 @@ pub fn read_part(
     nl: &mut Netlist,
     from: u32,
     names: &Names<'_>,
-    nets: &[Option<NetId>],
+    nets: &[MaybeNet],
     w: u32,
     name: u32,
     high: u32,
@@ -132,7 +133,7 @@ pub fn read_place(
     nl: &mut Netlist,
     from: u32,
     names: &Names<'_>,
-    nets: &[Option<NetId>],
+    nets: &[MaybeNet],
     w: u32,
     name: u32,
     k: u32,
@@ -166,7 +167,7 @@ pub fn read_word(
     nl: &mut Netlist,
     from: u32,
     names: &Names<'_>,
-    nets: &[Option<NetId>],
+    nets: &[MaybeNet],
     w: u32,
     name: u32,
     at: NetId,

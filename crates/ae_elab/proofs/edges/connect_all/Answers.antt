@@ -1,8 +1,9 @@
-use Rattle.std.proofs.Common.{◌<◌, ◌+◌, length, Some, None, arith, sym, ap, ◌∙◌, subst}
+use Rattle.std.proofs.Common.{◌<◌, ◌+◌, length, Some, arith, sym, ap, ◌∙◌, subst}
 use Rattle.std.proofs.lemmas.List.{length-map}
-use Rattle.std.proofs.lemmas.Option.{slice_get-get_or, slice_get_within}
+use Rattle.std.proofs.lemmas.Option.{slice_get_within}
 use Rattle.ae_vmodule.specs.View.{module_tree, net_tree}
 use Rattle.ae_order.proofs.Turns.{at_turn}
+use Rattle.ae_elab.proofs.Showing.{read_there}
 use Rattle.ae_elab.proofs.EdgeJoins.{AreJoined, joins_step, joins_none}
 use Rattle.ae_elab.proofs.edges.connect_all.Goals as goal
 use Rattle.ae_elab.proofs.edges.connect_all.Goals.{in-Some, in_default}
@@ -16,7 +17,7 @@ connect-requires-clause-unconnected c =
     let l : c.loop-place.place < length c.args.m.now.nets.items = omega arith in
     let n : c.loop-place.place < length c.args.nets.now = omega arith in
     let here = at_turn (net_tree c.args.m.now.words) c.args.m.now.nets.items k c.index.result.now l c.index.ensures in
-    let net = slice_get-get_or c.args.nets.now k None n ∙ ap Some c.in-Some.is in
+    let net = read_there c.args.nets.now k c.index-nets-place.result c.net.result n c.index-nets-place.is c.net.ensures ∙ ap Some c.in-Some.is in
     c.loop-place.invariant.free k (net_tree c.args.m.now.words c.index.result.now) c.in-Some.net (omega arith) here net
 
 pub connect-requires-clause-early : goal.connect-requires-clause-early
@@ -28,7 +29,7 @@ connect-requires-clause-early c = λ state.
     let l : c.loop-place.place < length c.args.m.now.nets.items = omega arith in
     let n : c.loop-place.place < length c.args.nets.now = omega arith in
     let here = at_turn (net_tree c.args.m.now.words) c.args.m.now.nets.items k c.index.result.now l c.index.ensures in
-    let net = slice_get-get_or c.args.nets.now k None n ∙ ap Some c.in-Some.is in
+    let net = read_there c.args.nets.now k c.index-nets-place.result c.net.result n c.index-nets-place.is c.net.ensures ∙ ap Some c.in-Some.is in
     c.requires.unconnected.early k (net_tree c.args.m.now.words c.index.result.now) c.in-Some.net here state net
 
 pub connect-requires-clause-fits : goal.connect-requires-clause-fits
@@ -50,10 +51,11 @@ loop-place-preserved c =
     let many = c.requires.fits.long in
     let l : c.loop-place.place < length c.args.m.now.nets.items = omega arith in
     let n : c.loop-place.place < length c.args.nets.now = omega arith in
-    elim c.match-nets-place.branch [
+    let there = read_there c.args.nets.now k c.index-nets-place.result c.net.result n c.index-nets-place.is c.net.ensures in
+    elim c.match-net.branch [
       | in-Some w ↦
           let here = at_turn (net_tree c.args.m.now.words) c.args.m.now.nets.items k w.index.result.now l w.index.ensures in
-          let net = slice_get-get_or c.args.nets.now k None n ∙ ap Some w.in-Some.is in
+          let net = there ∙ ap Some w.in-Some.is in
           let e = w.connect.ensures in
           subst (λ a. AreJoined c.args.from m c.args.nets.now c.args.nexts.now c.args.nl.now a (k + 1)) (sym w.nl-is)
           (joins_step c.args.from m c.args.nets.now c.args.nexts.now c.args.nl.now c.requires.unconnected c.loop-place.nl w.connect.new.nl k
@@ -62,7 +64,7 @@ loop-place-preserved c =
       | in_default w ↦
           subst (λ a. AreJoined c.args.from m c.args.nets.now c.args.nexts.now c.args.nl.now a (k + 1)) (sym w.nl-is)
           (joins_none c.args.from m c.args.nets.now c.args.nexts.now c.args.nl.now c.requires.unconnected c.loop-place.nl k c.loop-place.invariant
-          (slice_get-get_or c.args.nets.now k None n ∙ ap Some w.in_default.is))
+          (there ∙ ap Some w.in_default.is))
     ]
 
 pub returns-clause-connected : goal.returns-clause-connected
