@@ -14,7 +14,7 @@ ghost use Rattle.ae_elab.specs.Declaring.{AddsCell, AreDeclared, given_cell};
 use ae_express::MaybeNet;
 use ae_judge::{Names, clock_of, is_named};
 use ae_netlist::{Cell, NetId, Netlist, Port};
-use ae_vmodule::{NetKind, VModule, VNet};
+use ae_vmodule::{NetKind, PackedNet, VModule};
 use ae_word::Width;
 use std::alloc::{AllocError, Global};
 
@@ -41,29 +41,29 @@ fn push_memory(nl: &mut Netlist, width: u32, depth: u32) -> Result<NetId, AllocE
 }
 
 /// The net of a name, if it has one before any equation is looked at. Inputs are plain ports, numbered as they come.
-fn declare(nl: &mut Netlist, net: &VNet, is_clock: bool) -> Result<MaybeNet, AllocError>
+fn declare(nl: &mut Netlist, net: &PackedNet, is_clock: bool) -> Result<MaybeNet, AllocError>
     requires low { 1 ≤ net.now.width }
     requires high { net.now.width ≤ 64 }
     requires deep { (depth : ℕ) → net.now.kind ≡ Memory depth → (1 ≤ depth) × (depth ≤ 65536) }
     requires room { HasRoom nl.old 1 }
     ensures { IfOk result (λ found. AddsCell (given_cell net.now.kind is_clock (length nl.old.cells) (count_of is_input nl.old.cells) net.now.width) nl.old nl.new found) }
 {
-    match net.kind {
+    match net.kind() {
         NetKind::Wire | NetKind::OutWire => Ok(MaybeNet::none()),
         NetKind::Input => {
             if is_clock {
                 return Ok(MaybeNet::none());
             }
             let port = nl.inputs();
-            let input = nl.push(Width { bits: net.width }, Cell::Input(Port::Plain(port)))?;
+            let input = nl.push(Width { bits: net.width() }, Cell::Input(Port::Plain(port)))?;
             Ok(MaybeNet::of(nl, input))
         }
         NetKind::Reg | NetKind::OutReg => {
-            let register = push_register(nl, net.width)?;
+            let register = push_register(nl, net.width())?;
             Ok(MaybeNet::of(nl, register))
         }
         NetKind::Memory(depth) => {
-            let memory = push_memory(nl, net.width, depth)?;
+            let memory = push_memory(nl, net.width(), depth)?;
             Ok(MaybeNet::of(nl, memory))
         }
     }
@@ -89,7 +89,7 @@ pub fn declare_nets(
     let clock = clock_of(names, &m.items);
     let mut nets = Vec::new(alloc);
     for net in &m.nets {
-        let is_clock = is_named(names, net.name, clock);
+        let is_clock = is_named(names, net.name(), clock);
         let found = declare(nl, net, is_clock)?;
         nets.push(found)?;
     }

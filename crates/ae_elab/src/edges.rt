@@ -22,7 +22,7 @@ use ae_assign::{Next, Nexts, act};
 use ae_express::MaybeNet;
 use ae_judge::Names;
 use ae_netlist::{NetId, Netlist};
-use ae_vmodule::{ItemParts, VItem, VModule, VNet, WordList};
+use ae_vmodule::{ItemParts, PackedNet, VItem, VModule, WordList};
 use std::alloc::{AllocError, Global};
 
 /// What registers and memories take after an item.
@@ -83,7 +83,14 @@ fn act_items(
 }
 
 /// Connects a register or a memory to what it takes.
-fn connect(nl: &mut Netlist, _from: u32, _words: &WordList<'_>, x: &VNet, net: NetId, next: Next)
+fn connect(
+    nl: &mut Netlist,
+    _from: u32,
+    _words: &WordList<'_>,
+    x: &PackedNet,
+    net: NetId,
+    next: Next,
+)
     requires unconnected { IsUnconnected (net_tree _words.now x.now).kind nl.old.cells net.0 (net_tree _words.now x.now).width }
     requires early { is_state (net_tree _words.now x.now) ≡ true → net.0 < _from }
     requires fits { FitsNext nl.old.cells (net_tree _words.now x.now) next }

@@ -63,7 +63,7 @@ pub fn add_outputs(nl: &mut Netlist, m: &VModule<'_>, nets: &[MaybeNet]) -> Resu
     ensures plain { OnOk result (ArePlainOutlets nl.new.outlets) }
 {
     for place in 0..m.nets.len() {
-        show(nl, m.nets[place].kind, nets[place].net())?;
+        show(nl, m.nets[place].kind(), nets[place].net())?;
     }
     Ok(())
 }

@@ -42,7 +42,7 @@ fn net_width(m: &VModule<'_>, place: usize) -> u32
     requires inside { place < length (module_tree m.now).nets }
     ensures { (x : NetTree) → NetAt (module_tree m.now) place x → result ≡ x.width }
 {
-    m.nets[place].width
+    m.nets[place].width()
 }
 
 fn set_net(nl: &Netlist, nets: &mut Vec<MaybeNet>, place: usize, net: NetId)

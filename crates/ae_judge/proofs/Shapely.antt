@@ -190,8 +190,8 @@ one_item net k same sound low l [] = l
 one_item net k same sound low l (f ∷ fs) =
     (omega (arith, same f), sound f, subst (λ n. Ascends n k (map net fs)) (sym (same f)) (one_item net k same sound k (omega arith) fs))
 
-size_above : (v : NumberForm) → 1 ≤ size_of v
-size_above v = omega arith
+size_above : (most : ℕ) → 1 ≤ most → (v : NumberForm) → 1 ≤ size_of most v
+size_above most some v = omega (arith, some)
 
 net_item : (range : Option NumberForm) (kind : NetKind) (k : ℕ) (n : List ℕ) → (net_of range kind k n).item ≡ k
 net_item None kind k n = refl
@@ -200,7 +200,7 @@ net_item (Some high) kind k n = refl
 net_good : (range : Option NumberForm) (kind : NetKind) (k : ℕ) (n : List ℕ) → ((depth : ℕ) → kind ≡ Memory depth → 1 ≤ depth)
     → IsGoodNet (net_of range kind k n)
 net_good None kind k n h = (omega arith, h)
-net_good (Some high) kind k n h = (size_above high, h)
+net_good (Some high) kind k n h = (size_above 255 (omega arith) high, h)
 
 wire_deep : (depth : ℕ) → Wire ≡ Memory depth → 1 ≤ depth
 wire_deep depth h = absurd (cc)
@@ -213,9 +213,9 @@ head_deep OutputRegHead depth h = absurd (let e : OutReg ≡ Memory depth = h in
 reg_deep : (last : Option NumberForm) (depth : ℕ) → reg_kind last ≡ Memory depth → 1 ≤ depth
 reg_deep None depth h = absurd (let e : Reg ≡ Memory depth = h in cc)
 reg_deep (Some v) depth h =
-    let e : Memory (size_of v) ≡ Memory depth = h in
-    let s : size_of v ≡ depth = cc in
-    let a = size_above v in
+    let e : Memory (size_of 65537 v) ≡ Memory depth = h in
+    let s : size_of 65537 v ≡ depth = cc in
+    let a = size_above 65537 (omega arith) v in
     subst (λ n. 1 ≤ n) s a
 
 ports_ascend : (ps : List PortForm) → Ascends 0 0 (flat_map port_nets ps)

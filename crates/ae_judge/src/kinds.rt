@@ -151,8 +151,8 @@ fn clk_input(names: &Names<'_>) -> Option<u32>
 {
     match names.named("clk") {
         Some(net) => {
-            if is_input_kind(net.kind) && net.width == 1 {
-                Some(net.name)
+            if is_input_kind(net.kind()) && net.width() == 1 {
+                Some(net.name())
             } else {
                 None
             }

@@ -12,7 +12,7 @@ ghost use Rattle.ae_judge.specs.Widths.{declared_width};
 
 use crate::maybe_place::MaybePlace;
 use ae_keyed::Keyed;
-use ae_vmodule::{NetKind, VNet, WordList};
+use ae_vmodule::{NetKind, PackedNet, WordList};
 use std::alloc::{AllocError, Global};
 use std::marker::Model;
 
@@ -20,7 +20,7 @@ use std::marker::Model;
 #[derive(Drop)]
 pub struct Names<'m> {
     words: &'m WordList<'m>,
-    nets: &'m [VNet],
+    nets: &'m [PackedNet],
     /// The place of the first declaration of each name, by its number.
     places: Vec<MaybePlace>,
     /// The item of the first net whose name an earlier one has.
@@ -100,7 +100,7 @@ impl<'m> Names<'m> {
     pub fn of(
         alloc: Global,
         words: &'m WordList<'m>,
-        nets: &'m [VNet],
+        nets: &'m [PackedNet],
     ) -> Result<Names<'m>, AllocError>
         requires few { length nets.now < 2 ^ 32 }
         ensures { IfOk result (λ t. t ≡ table_of words.now nets.now) }
@@ -110,9 +110,9 @@ impl<'m> Names<'m> {
         let mut empty = MaybePlace::none();
         let mut again = None;
         'net: for place in 0..nets.len() {
-            let net = nets[place];
-            let there = note(words, &mut places, &mut empty, net.name, place);
-            again = noted(again, there, net.item);
+            let net = &nets[place];
+            let there = note(words, &mut places, &mut empty, net.name(), place);
+            again = noted(again, there, net.item());
         }
         Ok(Names {
             words,
@@ -189,7 +189,7 @@ impl<'m> Names<'m> {
         ensures net { option_and_then (slice_get self.now.nets) result ≡ net_named self.now.nets word.now }
     {
         'net: for place in 0..self.nets.len() {
-            if self.words.name(self.nets[place].name) == word {
+            if self.words.name(self.nets[place].name()) == word {
                 return Some(place);
             }
         }
@@ -197,7 +197,7 @@ impl<'m> Names<'m> {
     }
 
     /// The declaration of a name.
-    pub fn net(&self, name: u32) -> Option<&'m VNet>
+    pub fn net(&self, name: u32) -> Option<&'m PackedNet>
         ensures { option_map (λ x. net_tree self.now.words x.now) result ≡ net_named self.now.nets (word_at self.now.words name) }
     {
         match self.place(name) {
@@ -207,7 +207,7 @@ impl<'m> Names<'m> {
     }
 
     /// The declaration of the name with this text, in time linear in the nets.
-    pub fn named(&self, word: &str) -> Option<&'m VNet>
+    pub fn named(&self, word: &str) -> Option<&'m PackedNet>
         ensures { option_map (λ x. net_tree self.now.words x.now) result ≡ net_named self.now.nets word.now }
     {
         match self.scan(word) {
@@ -220,7 +220,7 @@ impl<'m> Names<'m> {
         ensures { result ≡ is_input_name self.now.nets (word_at self.now.words name) }
     {
         match self.net(name) {
-            Some(net) => is_input_kind(net.kind),
+            Some(net) => is_input_kind(net.kind()),
             None => false,
         }
     }
@@ -229,7 +229,7 @@ impl<'m> Names<'m> {
         ensures { result ≡ is_wire_name self.now.nets (word_at self.now.words name) }
     {
         match self.net(name) {
-            Some(net) => is_wire_kind(net.kind),
+            Some(net) => is_wire_kind(net.kind()),
             None => false,
         }
     }
@@ -238,7 +238,7 @@ impl<'m> Names<'m> {
         ensures { result ≡ is_register_name self.now.nets (word_at self.now.words name) }
     {
         match self.net(name) {
-            Some(net) => is_register_kind(net.kind),
+            Some(net) => is_register_kind(net.kind()),
             None => false,
         }
     }
@@ -247,7 +247,7 @@ impl<'m> Names<'m> {
         ensures { result ≡ is_memory_name self.now.nets (word_at self.now.words name) }
     {
         match self.net(name) {
-            Some(net) => is_memory_kind(net.kind),
+            Some(net) => is_memory_kind(net.kind()),
             None => false,
         }
     }
@@ -257,7 +257,7 @@ impl<'m> Names<'m> {
         ensures { result ≡ is_ranged self.now.nets (word_at self.now.words name) }
     {
         match self.net(name) {
-            Some(net) => net.ranged,
+            Some(net) => net.ranged(),
             None => false,
         }
     }
@@ -266,7 +266,7 @@ impl<'m> Names<'m> {
         ensures { result ≡ is_one_bit_input self.now.nets (word_at self.now.words name) }
     {
         match self.net(name) {
-            Some(net) => is_input_kind(net.kind) && net.width == 1,
+            Some(net) => is_input_kind(net.kind()) && net.width() == 1,
             None => false,
         }
     }
@@ -276,7 +276,7 @@ impl<'m> Names<'m> {
         ensures { result ≡ declared_width self.now.nets (word_at self.now.words name) }
     {
         match self.net(name) {
-            Some(net) => net.width,
+            Some(net) => net.width(),
             None => 0,
         }
     }
@@ -286,7 +286,7 @@ impl<'m> Names<'m> {
         ensures { result ≡ depth_of self.now.nets (word_at self.now.words name) }
     {
         match self.net(name) {
-            Some(net) => depth_of_kind(net.kind),
+            Some(net) => depth_of_kind(net.kind()),
             None => 0,
         }
     }

@@ -10,7 +10,7 @@ ghost use Rattle.ae_judge.specs.Judging.{first_from, with_names, is_driven, repe
 use crate::names::{Names, is_input_kind};
 use crate::reads::item_targets;
 use crate::seen::Seen;
-use ae_vmodule::{ItemParts, VItem, VNet};
+use ae_vmodule::{ItemParts, PackedNet, VItem};
 use std::alloc::{AllocError, Global};
 
 fn is_driven(driven: &Seen<'_>, name: u32) -> bool
@@ -92,14 +92,14 @@ pub fn first_twice(
 }
 
 /// Whether the net is no input, and its name none of those that are driven.
-fn is_undriven(driven: &Seen<'_>, net: &VNet) -> bool
+fn is_undriven(driven: &Seen<'_>, net: &PackedNet) -> bool
     ensures { result ≡ is_undriven driven.now.entries (net_tree driven.now.table.words net.now) }
 {
-    !is_input_kind(net.kind) && !driven.has(net.name)
+    !is_input_kind(net.kind()) && !driven.has(net.name())
 }
 
 /// The place of the first net that nothing drives.
-pub fn first_undriven(driven: &Seen<'_>, nets: &[VNet]) -> Option<u32>
+pub fn first_undriven(driven: &Seen<'_>, nets: &[PackedNet]) -> Option<u32>
     requires few { length nets.now < 2 ^ 32 }
     ensures { result ≡ first_from (λ _. is_undriven driven.now.entries) 0 (map (net_tree driven.now.table.words) nets.now) }
 {

@@ -18,7 +18,7 @@ fn is_declared_before(names: &Names<'_>, number: u32, name: u32) -> bool
     ensures { result ≡ is_declared_before names.now.nets number (word_at names.now.words name) }
 {
     match names.net(name) {
-        Some(net) => net.item < number,
+        Some(net) => net.item() < number,
         None => false,
     }
 }

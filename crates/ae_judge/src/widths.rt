@@ -12,7 +12,9 @@ ghost use Rattle.ae_vmodule.specs.ModuleTree.{concat_more};
 ghost use Rattle.ae_judge.specs.Judging.{first_from, first_too_large};
 
 use crate::names::{Names, depth_of_kind};
-use ae_vmodule::{BinOp, Drive, Expr, ItemParts, Root, Stmt, StmtRoot, Symbol, UnOp, VItem, VNet};
+use ae_vmodule::{
+    BinOp, Drive, Expr, ItemParts, PackedNet, Root, Stmt, StmtRoot, Symbol, UnOp, VItem,
+};
 
 /// The own width of a prefix whose operand has this.
 fn unary_width(op: UnOp, a: u32) -> u32
@@ -261,19 +263,19 @@ pub fn any_too_wide_drive(names: &Names<'_>, drives: &[Drive]) -> bool
 }
 
 /// Whether a name is wider than 64 bits or a memory deeper than 65,536 words.
-fn is_too_large(net: &VNet) -> bool
+fn is_too_large(net: &PackedNet) -> bool
     ensures { (ws : List (List ℕ)) → result ≡ is_too_large (net_tree ws net.now) }
 {
-    net.width > 64 || depth_of_kind(net.kind) > 65536
+    net.width() > 64 || depth_of_kind(net.kind()) > 65536
 }
 
 /// The item of the first net that is.
-pub fn first_too_large(names: &Names<'_>, nets: &[VNet]) -> Option<u32>
+pub fn first_too_large(names: &Names<'_>, nets: &[PackedNet]) -> Option<u32>
     ensures { result ≡ first_too_large (map (net_tree names.now.words) nets.now) }
 {
     'net: for net in nets {
         if is_too_large(net) {
-            return Some(net.item);
+            return Some(net.item());
         }
     }
     None

@@ -125,16 +125,15 @@ flat_single g f h (x ∷ xs) same =
 
 -- declared nets
 
-pub size_back : (n : ℕ) → 1 ≤ n → n ≤ 65536 → size_of (number_form (n - 1)) ≡ n
-size_back n low high =
-    ap (λ v. min (v + 1) 4294967295) (number_back (n - 1)) ∙ (let e : min (n - 1 + 1) 4294967295 ≡ n = omega arith in e)
+pub size_back : (most n : ℕ) → 1 ≤ n → n ≤ most → size_of most (number_form (n - 1)) ≡ n
+size_back most n low high = ap (λ v. min (v + 1) most) (number_back (n - 1)) ∙ (let e : min (n - 1 + 1) most ≡ n = omega arith in e)
 
 pub net_back : (width : ℕ) (kind : NetKind) (item : ℕ) (n : List ℕ) → 1 ≤ width → width ≤ 64
     → net_of (range_form width) kind item n ≡ m.net_of kind item width n
 net_back width kind item n low high = elim (cases_Bool (nat_lt 1 width)) [
   | inl wide ↦
       ap (λ r. net_of r kind item n) (cond-true _ _ _ wide)
-      ∙ (λ i. record { name = n; width = size_back width low (omega (arith, high)) i; ranged = sym wide i; kind = kind; item = item })
+      ∙ (λ i. record { name = n; width = size_back 255 width low (omega (arith, high)) i; ranged = sym wide i; kind = kind; item = item })
   | inr bit ↦
       let one : 1 ≡ width = small width low bit in
       ap (λ r. net_of r kind item n) (cond-false _ _ _ bit)

@@ -151,8 +151,8 @@ declared_back lines cells item net width (Const k) low high h = ap (λ x. x ∷ 
 declared_back lines cells item net width (Op op args) low high h = ap (λ x. x ∷ []) (net_back width WireNet item (number_name lines net) low high)
 declared_back lines cells item net width (Reg next) low high h = ap (λ x. x ∷ []) (net_back width RegNet item (number_name lines net) low high)
 declared_back lines cells item net width (Mem depth at next enable) low high h =
-    ap (λ x. x ∷ []) (net_back width (Memory (size_of (number_form (depth - 1)))) item (number_name lines net) low high
-    ∙ ap (λ d. m.net_of (Memory d) item width (number_name lines net)) (size_back depth h.0 h.1))
+    ap (λ x. x ∷ []) (net_back width (Memory (size_of 65537 (number_form (depth - 1)))) item (number_name lines net) low high
+    ∙ ap (λ d. m.net_of (Memory d) item width (number_name lines net)) (size_back 65537 depth h.0 (omega (arith, h.1))))
 declared_back lines cells item net width (Peek mem at) low high h = ap (λ x. x ∷ []) (net_back width WireNet item (number_name lines net) low high)
 
 as_many : (lines : ℕ → ℕ) → (cells : List SizedCell) (item net width : ℕ) (cell : Cell)

@@ -2,6 +2,7 @@ pub mod ModuleTree
 pub mod Numbered
 pub mod Listed
 pub mod Items
+pub mod PackedNets
 pub mod Postfix
 pub mod Roots
 pub mod Stacks

@@ -3,6 +3,7 @@
 
 mod items;
 mod module;
+mod packed_net;
 mod roots;
 mod stack;
 mod symbols;
@@ -10,6 +11,7 @@ mod words;
 
 pub use items::{ItemParts, VItem};
 pub use module::{BinOp, Drive, NetKind, UnOp, VModule, VNet};
+pub use packed_net::PackedNet;
 pub use stack::Stack;
 pub use symbols::{Code, Expr, Root, Stmt, StmtCode, StmtRoot, Symbol};
 pub use words::{WordList, Words};

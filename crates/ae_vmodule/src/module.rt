@@ -1,6 +1,7 @@
 // The parts of a module.
 
 use crate::items::VItem;
+use crate::packed_net::PackedNet;
 use crate::symbols::Code;
 use crate::words::WordList;
 
@@ -10,7 +11,7 @@ use crate::words::WordList;
 pub struct VModule<'a> {
     pub words: WordList<'a>,
     pub name: u32,
-    pub nets: Vec<VNet>,
+    pub nets: Vec<PackedNet>,
     pub items: Vec<VItem>,
 }
 
@@ -18,7 +19,7 @@ pub struct VModule<'a> {
 #[derive(Clone, Copy, Debug)]
 pub struct VNet {
     pub name: u32,
-    /// In bits; one that does not fit is kept as the greatest `u32`.
+    /// In bits; one above 255 is kept as 255.
     pub width: u32,
     /// Whether its declaration or port group has a range.
     pub ranged: bool,
@@ -33,7 +34,7 @@ pub enum NetKind {
     OutWire,
     Reg,
     OutReg,
-    /// A memory of so many words.
+    /// A memory of so many words; more than 65,537 are kept as 65,537.
     Memory(u32),
 }
 

@@ -102,13 +102,14 @@ module_tokens m =
 
 -- trees
 
--- the number plus 1, one above 2 ^ 32 - 1 as that
-abbrev pub size_of : NumberForm → ℕ
-size_of k = min (number_value k + 1) 4294967295
+-- the number plus 1, up to the most that is kept
+abbrev pub size_of : ℕ → NumberForm → ℕ
+size_of most k = min (number_value k + 1) most
 
+-- a width above 255 is kept as 255: no module may have a width above 64
 abbrev pub net_of : Option NumberForm → NetKind → ℕ → List ℕ → NetTree
 net_of None kind item n = record { name = n; width = 1; ranged = false; kind = kind; item = item }
-net_of (Some high) kind item n = record { name = n; width = size_of high; ranged = true; kind = kind; item = item }
+net_of (Some high) kind item n = record { name = n; width = size_of 255 high; ranged = true; kind = kind; item = item }
 
 abbrev pub head_kind : PortHead → NetKind
 head_kind (InputHead spelled) = Input
@@ -118,9 +119,10 @@ head_kind OutputRegHead = OutReg
 abbrev pub port_nets : PortForm → List NetTree
 port_nets p = map (net_of p.range (head_kind p.head) 0) (p.first ∷ p.more)
 
+-- a depth above 65,537 is kept as 65,537: no module may have a depth above 65,536
 abbrev pub reg_kind : Option NumberForm → NetKind
 reg_kind None = Reg
-reg_kind (Some last) = Memory (size_of last)
+reg_kind (Some last) = Memory (size_of 65537 last)
 
 abbrev pub reg_net : Option NumberForm → ℕ → RegForm → NetTree
 reg_net range item r = net_of range (reg_kind r.last) item r.name

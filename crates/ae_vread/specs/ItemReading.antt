@@ -64,13 +64,14 @@ range_from ts (Some us) =
 abbrev pub range : List TokenTree → Option (Option ℕ × List TokenTree)
 range ts = range_from ts (after_mark OpenBracket ts)
 
--- one more, up to 2 ^ 32 - 1
-abbrev pub one_more : ℕ → ℕ
-one_more n = min (n + 1) 4294967295
+-- one more, up to the most that is kept
+abbrev pub one_more : ℕ → ℕ → ℕ
+one_more most n = min (n + 1) most
 
+-- a width above 255 is kept as 255
 abbrev pub net_by : Option ℕ → NetKind → ℕ → List ℕ → NetTree
 net_by None kind item n = record { name = n; width = 1; ranged = false; kind = kind; item = item }
-net_by (Some high) kind item n = record { name = n; width = one_more high; ranged = true; kind = kind; item = item }
+net_by (Some high) kind item n = record { name = n; width = one_more 255 high; ranged = true; kind = kind; item = item }
 
 -- a declared name
 abbrev pub one_net : (List ℕ → NetTree) → List TokenTree → Option (Entries NetTree)
@@ -87,10 +88,10 @@ comma_net net ts = Some (net_behind net (after_mark Comma ts))
 abbrev pub net_list : (List ℕ → NetTree) → List TokenTree → Option (Entries NetTree)
 net_list net ts = listed (one_net net) (comma_net net) ts
 
--- a register, or a memory
+-- a register, or a memory; a depth above 65,537 is kept as 65,537
 abbrev pub reg_kind_of : Option ℕ → NetKind
 reg_kind_of None = Reg
-reg_kind_of (Some last) = Memory (one_more last)
+reg_kind_of (Some last) = Memory (one_more 65537 last)
 
 abbrev pub reg_from : Option ℕ → ℕ → List ℕ → List TokenTree → Option (List TokenTree) → Option (Entries NetTree)
 reg_from high item n ts None = Some (net_by high (reg_kind_of None) item n ∷ [], ts)

@@ -35,11 +35,11 @@ abbrev pub Ranges : List TokenTree → Result (Option ℕ) ReadFault → Option 
 Ranges now (Ok high) read = read ≡ Some (high, now)
 Ranges now (Err e) read = Fails e read
 
--- the net of a declaration
+-- the net of a declaration; a width above 255 is kept as 255
 abbrev pub net_of : ℕ → Option ℕ → NetKind → ℕ → VNet
 net_of name None kind item = record { name = name; width = 1; ranged = false; kind = kind; item = item }
 net_of name (Some high) kind item =
-    record { name = name; width = one_more high; ranged = true; kind = kind; item = item }
+    record { name = name; width = one_more 255 high; ranged = true; kind = kind; item = item }
 
 -- this kind of ports, and these tokens behind it
 abbrev pub Heads : List TokenTree → Result NetKind ReadFault → Option (NetKind × List TokenTree) → Type 0

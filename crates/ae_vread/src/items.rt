@@ -12,13 +12,13 @@ ghost use Rattle.ae_vmodule.specs.declared.module.VNet.{VNet};
 
 use crate::lists::net;
 use crate::reading::{ReadFault, Reader, is_mark};
-use ae_vmodule::{Drive, NetKind, VItem, VNet};
+use ae_vmodule::{Drive, NetKind, PackedNet, VItem};
 use ae_vtoken::{Key, Sign, Token};
 use std::alloc::Global;
 
 /// The names that drives of a declaration declare, behind other nets.
 fn drive_nets(
-    nets: &mut Vec<VNet>,
+    nets: &mut Vec<PackedNet>,
     drives: &[Drive],
     high: Option<u32>,
     item: u32,
@@ -43,7 +43,7 @@ impl Reader<'_> {
     fn wire_drives(
         &mut self,
         alloc: Global,
-        nets: &mut Vec<VNet>,
+        nets: &mut Vec<PackedNet>,
         high: Option<u32>,
         item: u32,
     ) -> Result<VItem, ReadFault>
@@ -62,7 +62,7 @@ impl Reader<'_> {
     fn wire_names(
         &mut self,
         alloc: Global,
-        nets: &mut Vec<VNet>,
+        nets: &mut Vec<PackedNet>,
         high: Option<u32>,
         item: u32,
     ) -> Result<VItem, ReadFault>
@@ -79,7 +79,7 @@ impl Reader<'_> {
     fn wire_item(
         &mut self,
         alloc: Global,
-        nets: &mut Vec<VNet>,
+        nets: &mut Vec<PackedNet>,
         item: u32,
     ) -> Result<VItem, ReadFault>
         ensures read { ReadsItem nets.old.items nets.new.items self.old.words self.new result (wire_item item (ahead self.old.tokens)) }
@@ -97,7 +97,7 @@ impl Reader<'_> {
     fn reg_item(
         &mut self,
         alloc: Global,
-        nets: &mut Vec<VNet>,
+        nets: &mut Vec<PackedNet>,
         item: u32,
     ) -> Result<VItem, ReadFault>
         ensures read { ReadsItem nets.old.items nets.new.items self.old.words self.new result (reg_item item (ahead self.old.tokens)) }
@@ -153,7 +153,7 @@ impl Reader<'_> {
     pub fn item_at(
         &mut self,
         alloc: Global,
-        nets: &mut Vec<VNet>,
+        nets: &mut Vec<PackedNet>,
         item: u32,
     ) -> Result<VItem, ReadFault>
         ensures read { ReadsItem nets.old.items nets.new.items self.old.words self.new result (item_at item (ahead self.old.tokens)) }

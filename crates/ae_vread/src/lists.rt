@@ -4,6 +4,7 @@ ghost use Rattle.std.specs.Prelude.{◌≡◌, ◌≤◌, ◌+◌, ℕ, List, On
 ghost use Rattle.ae_vtoken.specs.Ahead.{ahead};
 ghost use Rattle.ae_vread.specs.ItemReading.{after_zero, comma_net, drive_list, drive_tree_of, is_zero_first, net_by, net_list, one_drive, one_more, one_net, one_reg, range, reg_from, reg_list, with_comma};
 ghost use Rattle.ae_vmodule.specs.Held.{held};
+ghost use Rattle.ae_vmodule.specs.PackedNets.{FitsKind};
 ghost use Rattle.ae_vread.specs.ReadExpr.{used};
 ghost use Rattle.ae_vread.specs.ReadList.{ReadsList, StepsList};
 ghost use Rattle.ae_vmodule.specs.View.{drive_tree, net_tree};
@@ -13,35 +14,36 @@ ghost use Rattle.ae_vtoken.specs.Scan.{token_view};
 ghost use Rattle.ae_vread.specs.Read.{Numbers, Ranges, Steps, net_of};
 
 use crate::reading::{ReadFault, Reader};
-use ae_vmodule::{Drive, NetKind, VNet};
+use ae_vmodule::{Drive, NetKind, PackedNet, VNet};
 use ae_vtoken::{Sign, Token};
 
-/// One more, up to the greatest `u32`.
-fn one_more(n: u32) -> u32
-    ensures { result ≡ one_more n }
+/// One more, up to `most`.
+fn one_more(n: u32, most: u32) -> u32
+    ensures { result ≡ one_more most n }
 {
-    if n < 4294967295 { n + 1 } else { n }
+    if n < most { n + 1 } else { most }
 }
 
-/// A declared name: its width is one more than the number in front of its range's colon, and 1 without a range.
-pub fn net(name: u32, high: Option<u32>, kind: NetKind, item: u32) -> VNet
+/// A declared name: its width is one more than the number in front of its range's colon, up to 255, and 1 without a range.
+pub fn net(name: u32, high: Option<u32>, kind: NetKind, item: u32) -> PackedNet
+    requires { FitsKind kind }
     ensures { result ≡ net_of name high kind item }
 {
     match high {
-        None => VNet {
+        None => PackedNet::of(VNet {
             name,
             width: 1,
             ranged: false,
             kind,
             item,
-        },
-        Some(high) => VNet {
+        }),
+        Some(high) => PackedNet::of(VNet {
             name,
-            width: one_more(high),
+            width: one_more(high, 255),
             ranged: true,
             kind,
             item,
-        },
+        }),
     }
 }
 
@@ -101,11 +103,12 @@ impl Reader<'_> {
     /// A declared name.
     fn one_net(
         &mut self,
-        nets: &mut Vec<VNet>,
+        nets: &mut Vec<PackedNet>,
         high: Option<u32>,
         kind: NetKind,
         item: u32,
     ) -> Result<(), ReadFault>
+        requires { FitsKind kind }
         ensures read { ReadsList net_tree nets.old.items nets.new.items self.old.words self.new result (one_net (net_by high kind item) (ahead self.old.tokens)) }
         ensures few { OnOk result (used self.new + 1 ≤ used self.old) }
         ensures stack { OnOk result (held self.new.stack ≡ held self.old.stack) }
@@ -118,11 +121,12 @@ impl Reader<'_> {
     /// A comma and a name, if both stand in front.
     fn comma_net(
         &mut self,
-        nets: &mut Vec<VNet>,
+        nets: &mut Vec<PackedNet>,
         high: Option<u32>,
         kind: NetKind,
         item: u32,
     ) -> Result<bool, ReadFault>
+        requires { FitsKind kind }
         ensures read { StepsList net_tree nets.old.items nets.new.items self.old.words self.new result (comma_net (net_by high kind item) (ahead self.old.tokens)) (ahead self.old.tokens) }
         ensures few { OnOk result (used self.new ≤ used self.old) }
         ensures stack { OnOk result (held self.new.stack ≡ held self.old.stack) }
@@ -142,11 +146,12 @@ impl Reader<'_> {
     /// One or more names with commas between them.
     pub fn net_list(
         &mut self,
-        nets: &mut Vec<VNet>,
+        nets: &mut Vec<PackedNet>,
         high: Option<u32>,
         kind: NetKind,
         item: u32,
     ) -> Result<(), ReadFault>
+        requires { FitsKind kind }
         ensures read { ReadsList net_tree nets.old.items nets.new.items self.old.words self.new result (net_list (net_by high kind item) (ahead self.old.tokens)) }
         ensures few { OnOk result (used self.new + 1 ≤ used self.old) }
         ensures stack { OnOk result (held self.new.stack ≡ held self.old.stack) }
@@ -165,7 +170,7 @@ impl Reader<'_> {
     fn reg_from(
         &mut self,
         name: u32,
-        nets: &mut Vec<VNet>,
+        nets: &mut Vec<PackedNet>,
         high: Option<u32>,
         item: u32,
     ) -> Result<(), ReadFault>
@@ -181,14 +186,14 @@ impl Reader<'_> {
         self.want_mark(Sign::Colon)?;
         let last = self.want_number()?;
         self.want_mark(Sign::CloseBracket)?;
-        nets.push(net(name, high, NetKind::Memory(one_more(last)), item))?;
+        nets.push(net(name, high, NetKind::Memory(one_more(last, 65537)), item))?;
         Ok(())
     }
 
     /// A register or a memory.
     fn one_reg(
         &mut self,
-        nets: &mut Vec<VNet>,
+        nets: &mut Vec<PackedNet>,
         high: Option<u32>,
         item: u32,
     ) -> Result<(), ReadFault>
@@ -203,7 +208,7 @@ impl Reader<'_> {
     /// Behind a comma, a register or a memory.
     fn comma_reg(
         &mut self,
-        nets: &mut Vec<VNet>,
+        nets: &mut Vec<PackedNet>,
         high: Option<u32>,
         item: u32,
     ) -> Result<bool, ReadFault>
@@ -221,7 +226,7 @@ impl Reader<'_> {
     /// One or more registers and memories with commas between them.
     pub fn reg_list(
         &mut self,
-        nets: &mut Vec<VNet>,
+        nets: &mut Vec<PackedNet>,
         high: Option<u32>,
         item: u32,
     ) -> Result<(), ReadFault>

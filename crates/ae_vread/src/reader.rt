@@ -14,7 +14,7 @@ ghost use Rattle.ae_vread.specs.declared.reader.VFault.{VFault};
 
 use crate::reading::{ReadFault, Reader, is_word};
 use ae_keyed::Keyed;
-use ae_vmodule::{Stack, VItem, VModule, VNet, Words};
+use ae_vmodule::{PackedNet, Stack, VItem, VModule, Words};
 use ae_vtoken::{BadToken, Key, Tokens};
 use std::alloc::{AllocError, AllocFailed, Global};
 
@@ -65,7 +65,7 @@ impl Reader<'_> {
         &mut self,
         alloc: Global,
         most: u32,
-        nets: &mut Vec<VNet>,
+        nets: &mut Vec<PackedNet>,
     ) -> Result<Vec<VItem>, VFault>
         ensures { (h : HeldItems) → IsHeld nets.old.items [] self.old h → GivesItems nets.new.items self.old.words self.new result (items most 0 h) }
     {

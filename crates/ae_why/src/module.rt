@@ -271,11 +271,11 @@ fn push_net(
     let Some(net) = m.nets.get(net as usize) else {
         return Ok(());
     };
-    let name = m.words.name(net.name);
+    let name = m.words.name(net.name());
     if let Some(lexeme) = place_of_name(text, &found, name) {
         push_lexeme(out, text, lexeme)?;
     }
-    writeln!(out, "{name}, declared in item {}, {what}", net.item)
+    writeln!(out, "{name}, declared in item {}, {what}", net.item())
 }
 
 const KEYWORDS: [&str; 13] = [
@@ -302,7 +302,7 @@ fn is_name(word: &[u8]) -> bool {
 // Whether a name is declared in an item or above it.
 fn is_declared(m: &VModule<'_>, word: &[u8], item: u32) -> bool {
     for net in &m.nets {
-        if net.item <= item && m.words.name(net.name).as_bytes() == word {
+        if net.item() <= item && m.words.name(net.name()).as_bytes() == word {
             return true;
         }
     }

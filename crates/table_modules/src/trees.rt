@@ -183,11 +183,11 @@ pub fn nets(alloc: Global, m: &VModule<'_>) -> Result<String, AllocError> {
         write!(
             out,
             "VNet {{ name: {:?}, width: {}, ranged: {}, kind: {:?}, item: {} }}",
-            m.words.name(net.name),
-            net.width,
-            net.ranged,
-            net.kind,
-            net.item
+            m.words.name(net.name()),
+            net.width(),
+            net.ranged(),
+            net.kind(),
+            net.item()
         )?;
     }
     Ok(out)

@@ -8,7 +8,6 @@ use Rattle.ae_judge.proofs.Members.{among_from}
 use Rattle.ae_order.proofs.Turns.{at_turn, take_turn}
 use Rattle.ae_order.proofs.SoundOf.{sized}
 use Rattle.ae_elab.proofs.Declaring.{adds_limit, adds_outlets, declared_more}
-use Rattle.ae_elab.proofs.Tables.{found_at, net_at}
 use Rattle.ae_elab.proofs.declare.declare_nets.Goals as goal
 
 pub declare-requires-clause-low : goal.declare-requires-clause-low
@@ -17,9 +16,9 @@ declare-requires-clause-low c =
     let tree = net_tree c.args.m.now.words in
     let vs = c.deref-net-items.result.now in
     let i = c.loop-net.net-index in
-    let x = net_at vs i in
+    let x = c.net-item.result in
     let found : slice_get m.nets i ≡ Some (tree x) = subst (λ (us : List VNet). slice_get (map tree us) i ≡ Some (tree x)) c.deref-net-items.ensures.value
-    (at_turn tree vs i x c.loop-net-test.true (found_at vs i c.loop-net-test.true)) in
+    (at_turn tree vs i x c.loop-net-test.true c.net-item.is) in
     c.requires.shape.wide (tree x) (among_from _ m.nets i found)
 
 pub declare-requires-clause-high : goal.declare-requires-clause-high
@@ -28,9 +27,9 @@ declare-requires-clause-high c =
     let tree = net_tree c.args.m.now.words in
     let vs = c.deref-net-items.result.now in
     let i = c.loop-net.net-index in
-    let x = net_at vs i in
+    let x = c.net-item.result in
     let found : slice_get m.nets i ≡ Some (tree x) = subst (λ (us : List VNet). slice_get (map tree us) i ≡ Some (tree x)) c.deref-net-items.ensures.value
-    (at_turn tree vs i x c.loop-net-test.true (found_at vs i c.loop-net-test.true)) in
+    (at_turn tree vs i x c.loop-net-test.true c.net-item.is) in
     (sized m c.requires.regular c.requires.shape (tree x) (among_from _ m.nets i found)).0
 
 pub declare-requires-clause-deep : goal.declare-requires-clause-deep
@@ -39,9 +38,9 @@ declare-requires-clause-deep c = λ depth e.
     let tree = net_tree c.args.m.now.words in
     let vs = c.deref-net-items.result.now in
     let i = c.loop-net.net-index in
-    let x = net_at vs i in
+    let x = c.net-item.result in
     let found : slice_get m.nets i ≡ Some (tree x) = subst (λ (us : List VNet). slice_get (map tree us) i ≡ Some (tree x)) c.deref-net-items.ensures.value
-    (at_turn tree vs i x c.loop-net-test.true (found_at vs i c.loop-net-test.true)) in
+    (at_turn tree vs i x c.loop-net-test.true c.net-item.is) in
     let there = among_from (tree x) m.nets i found in
     let most = (sized m c.requires.regular c.requires.shape (tree x) there).1 in
     (c.requires.shape.deep (tree x) depth there e, subst (λ k. depth_of_kind k ≤ 65536) e most)
@@ -53,11 +52,11 @@ loop-net-preserved c =
     let tree = net_tree c.args.m.now.words in
     let vs = c.deref-net-items.result.now in
     let i = c.loop-net.net-index in
-    let x = net_at vs i in
+    let x = c.net-item.result in
     let turn : take (i + 1) m.nets ≡ take i m.nets ++ tree x ∷ [] = subst (λ (us : List VNet). take (i + 1) (map tree us) ≡ take i (map tree us) ++ tree x ∷ [])
-    c.deref-net-items.ensures.value (take_turn tree vs i x c.loop-net-test.true (found_at vs i c.loop-net-test.true)) in
+    c.deref-net-items.ensures.value (take_turn tree vs i x c.loop-net-test.true c.net-item.is) in
     let clock : c.is_named-is_clock.result ≡ is_clock m (tree x).name =
-    rw (c.clock_of-clock.ensures, c.requires.names, c.deref.ensures.value) at c.is_named-is_clock.ensures in
+    rw (c.name.ensures, c.clock_of-clock.ensures, c.requires.names, c.deref.ensures.value) at c.is_named-is_clock.ensures in
     let adds : AddsCell (given_cell x.kind (is_clock m (tree x).name) (length c.loop-net.nl.cells) (count_of is_input c.loop-net.nl.cells) x.width)
     c.loop-net.nl c.declare.new.nl c.in_ok-found.found = rw clock at c.in_ok-found.ensures in
     record {

@@ -4,6 +4,7 @@ use Rattle.ae_vmodule.specs.View.{module_tree, net_tree}
 use Rattle.ae_netlist.specs.declared.cell.Outlet.{Outlet}
 use Rattle.ae_netlist.specs.Circuit.{Circuit}
 use Rattle.ae_order.proofs.Turns.{at_turn, take_turn}
+use Rattle.ae_judge.specs.Names.{is_output_kind}
 use Rattle.ae_elab.proofs.Showing.{got_or, output_net, read_there, shown_few, shown_more, shown_plain}
 use Rattle.ae_elab.proofs.outputs.add_outputs.Goals as goal
 
@@ -18,8 +19,8 @@ show-requires-clause-net c = λ y t h.
     let found = at_turn (net_tree c.args.m.now.words) items c.loop-place.place c.index.result.now (omega arith) c.index.ensures in
     let net = read_there c.args.nets.now c.loop-place.place c.index-nets-place.result c.net.result (omega arith) c.index-nets-place.is c.net.ensures
     ∙ ap Some h in
-    rw c.loop-place.invariant.cells (output_net c.index.result.now.kind c.args.nl.now.cells y.0 c.index.result.now.width t
-    (c.requires.nets.each c.loop-place.place (net_tree c.args.m.now.words c.index.result.now) y found net))
+    rw c.loop-place.invariant.cells (output_net c.index.result.now.kind c.args.nl.now.cells y.0 c.index.result.now.width
+    (ap is_output_kind (sym c.kind.ensures) ∙ t) (c.requires.nets.each c.loop-place.place (net_tree c.args.m.now.words c.index.result.now) y found net))
 
 pub loop-place-preserved : goal.loop-place-preserved
 loop-place-preserved c =
@@ -32,7 +33,7 @@ loop-place-preserved c =
     let x = net_tree c.args.m.now.words c.index.result.now in
     let k = c.loop-place.place in
     let found = at_turn (net_tree c.args.m.now.words) items k c.index.result.now (omega arith) c.index.ensures in
-    let is = c.in_ok-show.ensures in
+    let is = rw c.kind.ensures at c.in_ok-show.ensures in
     let some = length-take k m.nets in
     let net = got_or c.args.nets.now k None c.net.result
     (read_there c.args.nets.now k c.index-nets-place.result c.net.result (omega arith) c.index-nets-place.is c.net.ensures) in

@@ -30,7 +30,7 @@ returns-clause-read c name word =
     let last = c.in_ok-last.ensures in
     let closed = c.in_ok-want_mark-2.ensures in
     let words = closed.words ∙ last.words ∙ colon.words ∙ zeroed.words ∙ opened.words in
-    let kind = Memory (one_more c.in_ok-last.last) in (
+    let kind = Memory (one_more 65537 c.in_ok-last.last) in (
       (net_by c.args.high kind c.args.item name ∷ [], ahead c.want_mark-2.new.self.tokens),
       memory_is c.args.high c.args.item name (ahead c.args.self.now.tokens) _ _ _ _ _ c.in_ok-last.last
           (opened.there c.if-not-mark.false) zeroed.read colon.read last.read closed.read,
