@@ -87,7 +87,9 @@ pub fn declare_nets(
     ensures outlets { OnOk result (nl.new.outlets ≡ nl.old.outlets) }
 {
     let clock = clock_of(names, &m.items);
-    let mut nets = Vec::new(alloc);
+    let count = m.nets.len();
+    nl.reserve(count)?;
+    let mut nets = Vec::with_capacity(alloc, count)?;
     for net in &m.nets {
         let is_clock = is_named(names, net.name(), clock);
         let found = declare(nl, net, is_clock)?;

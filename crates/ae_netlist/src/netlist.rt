@@ -71,6 +71,14 @@ impl Netlist {
         }
     }
 
+    /// Makes room for so many more cells at once, so that they need not be moved while they are added. Nothing else changes; the
+    /// error comes only for want of memory.
+    pub fn reserve(&mut self, more: usize) -> Result<(), AllocError>
+        ensures { self.new ≡ self.old }
+    {
+        self.cells.reserve_exact(more)
+    }
+
     /// Operands stand before their operators and have the right widths, so nothing depends on itself within a clock;
     /// each output shows a net. There are fewer than 2^32 of both.
     pub fn formed(&self)
