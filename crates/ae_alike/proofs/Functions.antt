@@ -1,6 +1,7 @@
 -- The costs of a schedule are those of its functions under their budgets.
 use Rattle.std.proofs.Common.{◌≡◌, ℕ, zero, suc, ◌+◌, ◌-◌, ◌<◌, List, [], ◌∷◌, ◌++◌, length, map, take, Option, Some, None, IsTrue, slice_get, get_or, refl, arith, sym, ap, ◌∙◌, subst, inl, inr, length-take, take-take}
 use Rattle.std.specs.Option.{option_map}
+use Rattle.std.specs.Prelude.{unwrap_or}
 use Rattle.std.proofs.lemmas.Bool.{cases_lt}
 use Rattle.std.proofs.lemmas.Option.{same_Some, slice_get-map, slice_get_within, get_or_from_slice_get}
 use Rattle.ae_seq.specs.Formed.{formed}
@@ -40,11 +41,11 @@ module _ (p : ProgramTree) (f clocks : ℕ) (known others : List OwnCosts) (keys
   -- the bodies that these nodes call cost what is told of the nodes, of which the first is number j
   abbrev BodiesAre : (j : ℕ) → List NodeTree → Type 0
   BodiesAre j ns = (q : ℕ) (n : NodeTree) (c : Call) (at : ℕ) → slice_get ns q ≡ Some n → called_by p f clocks n ≡ Some c → keys at c.func c.budget
-      → get_or known at wire_costs ≡ get_or others (j + q) wire_costs
+      → unwrap_or (slice_get known at) wire_costs ≡ unwrap_or (slice_get others (j + q)) wire_costs
 
   op-own : (j : ℕ) (co : Option Call) (o : Option StOpTree) (x : StOpTree)
       → ((op : StOpTree) → o ≡ Some op → (a s : StTree) (copies : ℕ) → op_costs known a s copies op ≡ op_costs others a s copies op)
-      → ((c : Call) (at : ℕ) → co ≡ Some c → keys at c.func c.budget → get_or known at wire_costs ≡ get_or others j wire_costs)
+      → ((c : Call) (at : ℕ) → co ≡ Some c → keys at c.func c.budget → unwrap_or (slice_get known at) wire_costs ≡ unwrap_or (slice_get others j) wire_costs)
       → IsOp keys co o x → (a s : StTree) (copies : ℕ) → op_costs known a s copies x ≡ op_costs others a s copies (own_op j co o)
   op-own j None o x plain bodies h a s copies = plain x h a s copies ∙ ap (op_costs others a s copies) (sym (ap (own_op j None) h))
   op-own j (Some c) o x plain bodies h a s copies = ap (op_costs known a s copies) h.is ∙ ap (body_costs copies) (bodies c h.at refl h.key)
@@ -63,10 +64,11 @@ module _ (p : ProgramTree) (f clocks : ℕ) (known others : List OwnCosts) (keys
           line = h.0.line;
           op = op-own j (called_by p f clocks n) (plain_op p f clocks n.op n.args) s.op
               (λ op e a t copies. plain-costs known others a t copies op (plain-no-body p f clocks n.op n.args op e))
-              (λ c at e key. bodies 0 n c at refl e key ∙ ap (λ k. get_or others k wire_costs) z) h.0.op;
+              (λ c at e key. bodies 0 n c at refl e key ∙ ap (λ k. unwrap_or (slice_get others k) wire_costs) z) h.0.op;
         },
         nodes-own (i + 1) (j + 1) ns ss (λ q m c at e called key.
-            (let more : j + suc q ≡ j + 1 + q = omega arith in bodies (suc q) m c at e called key ∙ ap (λ k. get_or others k wire_costs) more)) h.1,
+            (let more : j + suc q ≡ j + 1 + q = omega arith in bodies (suc q) m c at e called key ∙ ap (λ k. unwrap_or (slice_get others k) wire_costs) more))
+            h.1,
       )
 
 -- ---- functions by those above them
@@ -117,9 +119,10 @@ module _ (p : ProgramTree) (slowdown : ℕ) (all : List StFuncTree) (good : IsTr
       let mapped : slice_get told q ≡ Some (call_costs (above p f) (called_by p f clocks n)) =
       slice_get-map (λ m. call_costs (above p f) (called_by p f clocks m)) g.nodes q ∙
       ap (option_map (λ m. call_costs (above p f) (called_by p f clocks m))) e in
-      let mine : get_or told q wire_costs ≡ costs_of p c.func c.budget =
-      get_or_from_slice_get told q _ wire_costs mapped ∙ ap (call_costs (above p f)) called ∙ above-at p f c.func c.budget callee.of there low in
-      r.2 ∙ before at r.0 x r.1 ∙ (λ i. costs_of p (key.is_func i) (key.is_budget i)) ∙ sym mine ∙ ap (λ m. get_or told m wire_costs) zero_first) in
+      let mine : unwrap_or (slice_get told q) wire_costs ≡ costs_of p c.func c.budget =
+      ap (λ (o : Option OwnCosts). unwrap_or o wire_costs) mapped ∙ ap (call_costs (above p f)) called ∙ above-at p f c.func c.budget callee.of there low in
+      r.2 ∙ before at r.0 x r.1 ∙ (λ i. costs_of p (key.is_func i) (key.is_budget i)) ∙ sym mine ∙
+      ap (λ m. unwrap_or (slice_get told m) wire_costs) zero_first) in
       let nodes : AllSame known told s.nodes (own_nodes p f clocks (length g.params) 0 g.nodes) = nodes-own p f clocks known told (HasKey (take k all))
       (length g.params) 0 g.nodes s.nodes bodies own.nodes in
       let t : StFuncTree = own_func p f clocks g in

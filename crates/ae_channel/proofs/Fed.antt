@@ -4,7 +4,8 @@ use Rattle.std.specs.List.{All}
 use Rattle.std.proofs.lemmas.List.{take_all, take_at}
 use Rattle.std.proofs.lemmas.List.Concat.{flat_map-cons}
 use Rattle.std.proofs.lemmas.List.Sums.{sum_by-cons}
-use Rattle.std.proofs.lemmas.Option.{slice_get_within}
+use Rattle.std.proofs.lemmas.Option.{slice_get_within, unwrap_or-slice_get}
+use Rattle.std.specs.Prelude.{unwrap_or}
 use Rattle.ae_word.specs.AtomTree.{atom_kinds}
 use Rattle.ae_word.proofs.Sizes.{length-atom_kinds}
 use Rattle.ae_seqtype.specs.SeqTree.{SeqTree, atom, atoms, kinds, repeated}
@@ -183,10 +184,10 @@ module _ (p : ProgramTree) (slowdown : ℕ) (costs : OwnCosts) (ins outs : List 
         ∙ (ap (λ i. get_or (get_or rows (suc clock) []) i 0) (count_first n.cells given k first (omega (arith, within)))
         ∙ ap (λ (r : List ℕ). get_or r k 0) (row_later slowdown 0 ins (map (map flat) blocks) (clock + 1) clock (omega arith)))
 
-    shown : ShowsClock n.cells ins block clock (get_or run (suc clock) no_clock)
+    shown : ShowsClock n.cells ins block clock (unwrap_or (slice_get run (suc clock)) no_clock)
     unfolding word_at
     shown = record {
-      shaped = clock_shaped is_run.runs (suc clock) (omega (arith, is_run.long, long));
+      shaped = rw (unwrap_or-slice_get run (suc clock) no_clock) (clock_shaped is_run.runs (suc clock) (omega (arith, is_run.long, long)));
       low = word 0 reset_port refl;
       words = λ q s e j w found slot small now.
           let f = ins_filling p slowdown ins outs laid q s found in
@@ -211,5 +212,5 @@ module _ (p : ProgramTree) (slowdown : ℕ) (costs : OwnCosts) (ins outs : List 
     ins = λ q s e j w found slot small.
         let port = at_column q (w.lane * element_words s + j) s found (column_of q e j s w found slot small) in
         record { width = port.0.width; port = port.0.port; found = there (1 + (first_column ins q + (w.lane * element_words s + j))) port.0 port.1 };
-    clocks = λ block values clock. (get_or (run block values clock) (suc clock) no_clock, shown block values clock);
+    clocks = λ block values clock. (unwrap_or (slice_get (run block values clock) (suc clock)) no_clock, shown block values clock);
   }

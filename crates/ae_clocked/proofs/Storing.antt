@@ -1,7 +1,7 @@
 -- What one more memory, and a look into one, do to a netlist.
 use Rattle.std.proofs.Common.{ℕ, ◌≡◌, ◌≢◌, ◌<◌, ◌≤◌, ◌^◌, ◌==◌, inl, inr, false, List, ◌++◌, ◌∷◌, [], length, set, take, Some, slice_get, Result, Ok, Err, IfOk, OnOk, arith, refl, sym, ap, ◌∙◌, subst, length-append}
 use Rattle.std.proofs.lemmas.Bool.{ne_eqb}
-use Rattle.std.proofs.lemmas.Option.{slice_get_within}
+use Rattle.std.proofs.lemmas.Option.{unwrap_or-slice_get, slice_get_within}
 use Rattle.ae_netlist.specs.declared.cell.NetId.{NetId}
 use Rattle.ae_netlist.specs.declared.cell.Cell.TheVariants.{Mem, Peek}
 use Rattle.ae_netlist.specs.declared.cell.SizedCell.{SizedCell}
@@ -12,6 +12,7 @@ use Rattle.ae_netlist.proofs.Gets.{get_pushed, get_push_cases}
 use Rattle.ae_netlist.proofs.Growing.{net_later, net_width, width_is, net_from_take, memory_from_take, extends_append}
 use Rattle.ae_netlist.proofs.Carried.{carries_extends, carries_later, carries_trans}
 use Rattle.ae_netlist.proofs.Counting.{count_push}
+use Rattle.ae_netlist.proofs.ReadAt.{store_got}
 use Rattle.ae_netlist.proofs.Shapes.{clock_shaped, cell_holds}
 use Rattle.ae_gates.specs.Cells.{Grows, Adds, IsConstant, is_test}
 use Rattle.ae_gates.proofs.Added.{IsAdded, grows_length, net_within, own_net}
@@ -106,6 +107,7 @@ peek_net old new (Err e) w m at a = a.0
 peek_word : (cells : List SizedCell) (w : ℕ) (m at : NetId)
     → InEveryRunFrom (length cells) (cells ++ peek_cell w m at ∷ []) (λ run. IsLook run (length cells) m.0 at.0)
 peek_word cells w m at = λ all c run r t l. r.settles t (length cells) (peek_cell w m at) l (c.keeps (length cells) _ (omega arith) (get_pushed cells _))
+    ∙ unwrap_or-slice_get (store_at run t m.0) (word_at run t at.0) 0
 
 pub peek_words : {E : Type 0} (old new : Circuit) (r : Result NetId E) (w : ℕ) (m at : NetId) → IsAdded old new r (peek_cell w m at)
     → IfOk r (λ y. InEveryRunFrom (length old.cells) new.cells (λ run. IsLook run y.0 m.0 at.0))
@@ -174,11 +176,10 @@ adds_store old new w d at next enable formed ne place deep e = rw e (record {
 -- a memory that is written in every clock
 pub store_words : (cells : List SizedCell) (w d : ℕ) (at next enable : NetId) → enable.0 ≢ length cells
     → InEveryRunFrom (length cells) (cells ++ memory_cell w d at next enable ∷ []) (λ run. IsConstant run enable.0 1 → IsStore run (length cells) at.0 next.0 d)
-unfolding store_at
 store_words cells w d at next enable ne = λ all c run r always.
     let there : slice_get all (length cells) ≡ Some (memory_cell w d at next enable) = c.keeps (length cells) _ (omega arith) (get_pushed cells _) in
     record {
-      long = λ t l. (cell_holds (clock_shaped r t l) (length cells) _ there).1;
+      long = λ t l. rw (store_got run t (length cells)) (cell_holds (clock_shaped r t l) (length cells) _ there).1;
       takes = λ t l.
           let other : (enable.0 == length cells) ≡ false = ne_eqb enable.0 (length cells) ne in
           let one : word_at run t enable.0 ≡ 1 = always t (omega arith) in

@@ -1,6 +1,6 @@
 -- What is so of the program function of a typed program, and of its instance.
 use Rattle.std.proofs.Common.{◌≡◌, ℕ, zero, suc, ◌+◌, ◌-◌, ◌≤◌, true, List, [], ◌∷◌, ◌++◌, length, length-append, map, take, Some, slice_get, ap, sym, ◌∙◌, arith, IsTrue}
-use Rattle.std.specs.Prelude.{get_or}
+use Rattle.std.specs.Prelude.{unwrap_or}
 use Rattle.std.proofs.lemmas.List.{length-map}
 use Rattle.std.proofs.lemmas.Option.{none-some, same_Some}
 use Rattle.std.proofs.lemmas.Bool.Decides.{nat_tests}
@@ -83,7 +83,7 @@ name_short : (n : List ℕ) → IsTrue (is_name n) → length n ≤ 32
 name_short n h = grind (arith, nat_tests)
 
 -- so is the name of any item, that of a parameter or of a node
-items_short : (ps ns : List (List ℕ)) → IsTrue (all_names ps) → IsTrue (all_names ns) → (i : ℕ) → length (get_or (ps ++ ns) i []) ≤ 32
+items_short : (ps ns : List (List ℕ)) → IsTrue (all_names ps) → IsTrue (all_names ns) → (i : ℕ) → length (unwrap_or (slice_get (ps ++ ns) i) []) ≤ 32
 items_short [] [] h g i = omega arith
 items_short [] (n ∷ ns) h g zero = name_short n (both_left (is_name n) (all_names ns) g)
 items_short [] (n ∷ ns) h g (suc i) = items_short [] ns h (both_right (is_name n) (all_names ns) g) i

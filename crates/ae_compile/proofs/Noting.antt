@@ -1,7 +1,7 @@
 -- The names in what is told of a program's lines can be written.
 use Rattle.std.proofs.Common.{◌≡◌, ℕ, zero, suc, ◌+◌, ◌-◌, Bool, true, false, if◌then◌else◌, List, [], ◌∷◌, ◌++◌, length, map, Result, Ok, Err, IfOk, IsTrue, Some, slice_get, refl, sym, ◌∙◌, subst, arith}
 use Rattle.std.specs.List.{list_all}
-use Rattle.std.specs.Prelude.{Vec, get_or}
+use Rattle.std.specs.Prelude.{unwrap_or, Vec}
 use Rattle.std.proofs.lemmas.Bool.{and_parts, and_from}
 use Rattle.std.proofs.lemmas.Bool.Decides.{nat_tests}
 use Rattle.std.proofs.lemmas.Option.{none-some, same_Some}
@@ -38,7 +38,8 @@ notes_printed (Ok v) layouts i ns ms named is = subst ArePrinted (sym is) (all_p
 notes_printed (Err e) layouts i ns ms named is = tt
 
 -- the names of parameters and of nodes
-items_printed : (ps ns : List (List ℕ)) → IsTrue (all_names ps) → IsTrue (all_names ns) → (i : ℕ) → list_all is_printed (get_or (ps ++ ns) i []) ≡ true
+items_printed : (ps ns : List (List ℕ)) → IsTrue (all_names ps) → IsTrue (all_names ns) → (i : ℕ)
+    → list_all is_printed (unwrap_or (slice_get (ps ++ ns) i) []) ≡ true
 items_printed [] [] h g i = refl
 items_printed [] (n ∷ ns) h g zero = name_printed n (name_plain n (both_left (is_name n) (all_names ns) g))
 items_printed [] (n ∷ ns) h g (suc i) = items_printed [] ns h (both_right (is_name n) (all_names ns) g) i

@@ -1,5 +1,5 @@
 -- What the cells of a queue make so in every run.
-use Rattle.std.proofs.Common.{ℕ, zero, suc, ◌≡◌, ◌+◌, ◌*◌, ◌<◌, ◌≤◌, inl, inr, List, [], ◌∷◌, length, Some, slice_get, get_or, Bool, arith, refl, sym, ap, ◌∙◌, subst}
+use Rattle.std.proofs.Common.{ℕ, zero, suc, ◌≡◌, ◌+◌, ◌*◌, ◌<◌, ◌≤◌, inl, inr, List, [], ◌∷◌, length, Some, slice_get, unwrap_or, Bool, arith, refl, sym, ap, ◌∙◌, subst}
 use Rattle.std.specs.Prelude.{◌&&◌, ◌||◌, not, if◌then◌else◌}
 use Rattle.std.proofs.lemmas.Bool.{cases_eq}
 use Rattle.ae_netlist.specs.declared.cell.NetId.{NetId}
@@ -17,25 +17,28 @@ use Rattle.ae_control.proofs.Cells.{longer_refl, longer_trans}
 
 module _ (all : List SizedCell) (c : Controlled) (made : NetId) (at : ℕ) (h : HasColumn all c made at) (run : List Clock) (r : IsRun all run) where
   word_of : (width n k a b : ℕ) → slice_get all n ≡ Some (choice width (row k a b)) → (t : ℕ) → t < length run
-      → word_in n (get_or run t no_clock) ≡ (if bit k (get_or run t no_clock) then word_in a (get_or run t no_clock) else word_in b (get_or run t no_clock))
+      → word_in n (unwrap_or (slice_get run t) no_clock) ≡ (if bit k (unwrap_or (slice_get run t) no_clock) then word_in a
+      (unwrap_or (slice_get run t) no_clock) else word_in b (unwrap_or (slice_get run t) no_clock))
   unfolding word_at
   word_of width n k a b found t l = r.settles t n (choice width (row k a b)) l found
 
   taken : (width n m : ℕ) → slice_get all n ≡ Some (taking width (net m)) → (t : ℕ) → t + 1 < length run
-      → word_in n (get_or run (t + 1) no_clock) ≡ word_in m (get_or run t no_clock)
+      → word_in n (unwrap_or (slice_get run (t + 1)) no_clock) ≡ word_in m (unwrap_or (slice_get run t) no_clock)
   unfolding word_at
   taken width n m found t l = r.steps t n (taking width (net m)) l found
 
-  pub second_next : (t : ℕ) → t + 1 < length run → word_in (at + 1) (get_or run (t + 1) no_clock)
-      ≡ next_b (bit c.two.0 (get_or run t no_clock)) (word_in (at + 1) (get_or run t no_clock)) (word_in made.0 (get_or run t no_clock))
+  pub second_next : (t : ℕ) → t + 1 < length run → word_in (at + 1) (unwrap_or (slice_get run (t + 1)) no_clock)
+      ≡ next_b (bit c.two.0 (unwrap_or (slice_get run t) no_clock)) (word_in (at + 1) (unwrap_or (slice_get run t) no_clock))
+      (word_in made.0 (unwrap_or (slice_get run t) no_clock))
   second_next t l = taken h.width (at + 1) (at + 2) h.second t l ∙ word_of h.width (at + 2) c.two.0 (at + 1) made.0 h.next t (omega arith)
 
-  pub shown_next : (pop one : Bool) (t : ℕ) → t + 1 < length run → bit c.moves.0 (get_or run t no_clock) ≡ (pop || not one)
-      → word_in at (get_or run (t + 1) no_clock)
-      ≡ next_a one (bit c.two.0 (get_or run t no_clock)) pop (word_in at (get_or run t no_clock)) (word_in (at + 1) (get_or run t no_clock))
-      (word_in made.0 (get_or run t no_clock))
+  pub shown_next : (pop one : Bool) (t : ℕ) → t + 1 < length run → bit c.moves.0 (unwrap_or (slice_get run t) no_clock) ≡ (pop || not one)
+      → word_in at (unwrap_or (slice_get run (t + 1)) no_clock)
+      ≡ next_a one (bit c.two.0 (unwrap_or (slice_get run t) no_clock)) pop (word_in at (unwrap_or (slice_get run t) no_clock))
+      (word_in (at + 1) (unwrap_or (slice_get run t) no_clock))
+      (word_in made.0 (unwrap_or (slice_get run t) no_clock))
   shown_next pop one t l e =
-      let k : Clock = get_or run t no_clock in
+      let k : Clock = unwrap_or (slice_get run t) no_clock in
       taken h.width at (at + 3) h.shown t l
       ∙ (word_of h.width (at + 3) c.moves.0 (at + 2) at h.moved t (omega arith)
       ∙ (ap (λ v. if v then word_in (at + 2) k else word_in at k) e
@@ -101,7 +104,8 @@ all_columns a new c made h =
           (λ m s low f. keeps m s (omega (arith, low)) f) (column k l) in
           record {
             shown = λ k l t m. shown_next all c (net (net_at made k)) (from + 4 * k) (there k l) run r
-                (bit c.one.0 (get_or run t no_clock) && bit w.ready.0 (get_or run t no_clock)) (bit c.one.0 (get_or run t no_clock)) t m
+                (bit c.one.0 (unwrap_or (slice_get run t) no_clock) && bit w.ready.0 (unwrap_or (slice_get run t) no_clock))
+                (bit c.one.0 (unwrap_or (slice_get run t) no_clock)) t m
                 (moves t (omega arith));
             second = λ k l t m. second_next all c (net (net_at made k)) (from + 4 * k) (there k l) run r t m;
           };

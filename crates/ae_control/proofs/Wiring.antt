@@ -1,5 +1,5 @@
 -- What the cells of a control make so in every run.
-use Rattle.std.proofs.Common.{ℕ, zero, suc, ◌≡◌, ◌+◌, ◌*◌, ◌<◌, ◌≤◌, inl, inr, List, length, Some, slice_get, get_or, Bool, true, false, arith, refl, sym, ap, ◌∙◌}
+use Rattle.std.proofs.Common.{ℕ, zero, suc, ◌≡◌, ◌+◌, ◌*◌, ◌<◌, ◌≤◌, inl, inr, List, length, Some, slice_get, unwrap_or, Bool, true, false, arith, refl, sym, ap, ◌∙◌}
 use Rattle.std.specs.Prelude.{◌&&◌, ◌||◌, ◌==◌, not, if◌then◌else◌}
 use Rattle.std.proofs.lemmas.Bool.{cases_eq}
 use Rattle.ae_netlist.specs.declared.cell.NetId.{NetId}
@@ -99,48 +99,57 @@ module _ (all : List SizedCell) (w : Wires) (at : Places) (wait : ℕ) (busy : N
   g = at.gates
 
   choice_at : (n c a b : ℕ) → slice_get all n ≡ Some (choice 1 (row c a b)) → (t : ℕ) → t < length run
-      → bit n (get_or run t no_clock) ≡ (if bit c (get_or run t no_clock) then bit a (get_or run t no_clock) else bit b (get_or run t no_clock))
+      → bit n (unwrap_or (slice_get run t) no_clock) ≡ (if bit c (unwrap_or (slice_get run t) no_clock) then bit a
+      (unwrap_or (slice_get run t) no_clock) else bit b (unwrap_or (slice_get run t) no_clock))
   unfolding word_at
-  choice_at n c a b found t l = chosen (bit c (get_or run t no_clock)) _ _ _ (r.settles t n (choice 1 (row c a b)) l found)
+  choice_at n c a b found t l = chosen (bit c (unwrap_or (slice_get run t) no_clock)) _ _ _ (r.settles t n (choice 1 (row c a b)) l found)
 
   gate : (k c a b : ℕ) → slice_get (gate_rows w at busy) k ≡ Some (row c a b) → (t : ℕ) → t < length run
-      → bit (g + k) (get_or run t no_clock) ≡ (if bit c (get_or run t no_clock) then bit a (get_or run t no_clock) else bit b (get_or run t no_clock))
+      → bit (g + k) (unwrap_or (slice_get run t) no_clock) ≡ (if bit c (unwrap_or (slice_get run t) no_clock) then bit a
+      (unwrap_or (slice_get run t) no_clock) else bit b (unwrap_or (slice_get run t) no_clock))
   gate k c a b there t l = choice_at (g + k) c a b (h.gates k (row c a b) there) t l
 
-  low : (t : ℕ) → t < length run → bit at.base (get_or run t no_clock) ≡ false
+  low : (t : ℕ) → t < length run → bit at.base (unwrap_or (slice_get run t) no_clock) ≡ false
   unfolding word_at
   low t l = ap (λ n. n == 1) (r.settles t at.base (record { width = 1; cell = Const 0 }) l h.low)
 
-  high : (t : ℕ) → t < length run → bit (at.base + 1) (get_or run t no_clock) ≡ true
+  high : (t : ℕ) → t < length run → bit (at.base + 1) (unwrap_or (slice_get run t) no_clock) ≡ true
   unfolding word_at
   high t l = ap (λ n. n == 1) (r.settles t (at.base + 1) (record { width = 1; cell = Const 1 }) l h.high)
 
   register : (k n m : ℕ) → k < at.blocks + 4 → at.base + 2 + k ≡ n → g + 21 + 2 * k ≡ m → (t : ℕ) → t + 1 < length run
-      → bit n (get_or run (t + 1) no_clock) ≡ bit m (get_or run t no_clock)
+      → bit n (unwrap_or (slice_get run (t + 1)) no_clock) ≡ bit m (unwrap_or (slice_get run t) no_clock)
   unfolding word_at
   register k n m few e f t l =
       let step : word_at run (t + 1) (at.base + 2 + k) ≡ word_at run t (g + 21 + 2 * k) = r.steps t (at.base + 2 + k) (taking 1 (net (g + 21 + 2 * k))) l
       (h.registers k few) in
-      ap (λ v. bit v (get_or run (t + 1) no_clock)) (sym e) ∙ (ap (λ v. v == 1) step ∙ ap (λ v. bit v (get_or run t no_clock)) f)
+      ap (λ v. bit v (unwrap_or (slice_get run (t + 1)) no_clock)) (sym e) ∙ (ap (λ v. v == 1) step ∙ ap (λ v. bit v (unwrap_or (slice_get run t) no_clock)) f)
 
-  here_at : (t : ℕ) → t < length run → bit g (get_or run t no_clock) ≡ (if bit w.first.0 (get_or run t no_clock) then bit w.valid.0
-      (get_or run t no_clock) else bit (at.base + 2) (get_or run t no_clock))
-  here_at t l = (let e : g ≡ g + 0 = omega arith in ap (λ n. bit n (get_or run t no_clock)) e ∙ gate 0 w.first.0 w.valid.0 (at.base + 2) refl t l)
+  here_at : (t : ℕ) → t < length run → bit g (unwrap_or (slice_get run t) no_clock) ≡ (if bit w.first.0
+      (unwrap_or (slice_get run t) no_clock) then bit w.valid.0
+      (unwrap_or (slice_get run t) no_clock) else bit (at.base + 2) (unwrap_or (slice_get run t) no_clock))
+  here_at t l = (let e : g ≡ g + 0 = omega arith in ap (λ n. bit n (unwrap_or (slice_get run t) no_clock)) e ∙
+      gate 0 w.first.0 w.valid.0 (at.base + 2) refl t l)
 
-  takes_at : (t : ℕ) → t < length run → bit (g + 1) (get_or run t no_clock) ≡ (bit w.first.0 (get_or run t no_clock) || bit w.wants.0 (get_or run t no_clock))
+  takes_at : (t : ℕ) → t < length run → bit (g + 1) (unwrap_or (slice_get run t) no_clock) ≡ (bit w.first.0
+      (unwrap_or (slice_get run t) no_clock) || bit w.wants.0 (unwrap_or (slice_get run t) no_clock))
   takes_at t l =
-      let c : Clock = get_or run t no_clock in
+      let c : Clock = unwrap_or (slice_get run t) no_clock in
       gate 1 w.first.0 (at.base + 1) w.wants.0 refl t l
       ∙ (ap (λ v. if bit w.first.0 c then v else bit w.wants.0 c) (high t l) ∙ or_is (bit w.first.0 c) (bit w.wants.0 c))
 
-  enable_at : (t : ℕ) → t < length run → bit (g + 7) (get_or run t no_clock)
-      ≡ (bit w.reset.0 (get_or run t no_clock) || (not (bit (at.base + 4) (get_or run t no_clock))
-      && may_go (bit w.first.0 (get_or run t no_clock)) (bit w.valid.0 (get_or run t no_clock)) (bit busy.0 (get_or run t no_clock))
-      (bit (g + 1) (get_or run t no_clock)) (bit (at.base + 2) (get_or run t no_clock))))
+  enable_at : (t : ℕ) → t < length run → bit (g + 7) (unwrap_or (slice_get run t) no_clock)
+      ≡ (bit w.reset.0 (unwrap_or (slice_get run t) no_clock) || (not (bit (at.base + 4) (unwrap_or (slice_get run t) no_clock))
+      && may_go (bit w.first.0 (unwrap_or (slice_get run t) no_clock)) (bit w.valid.0 (unwrap_or (slice_get run t) no_clock))
+      (bit busy.0 (unwrap_or (slice_get run t) no_clock))
+      (bit (g + 1) (unwrap_or (slice_get run t) no_clock)) (bit (at.base + 2) (unwrap_or (slice_get run t) no_clock))))
   enable_at t l =
-      step (bit w.reset.0 (get_or run t no_clock)) (bit (at.base + 4) (get_or run t no_clock)) (bit w.first.0 (get_or run t no_clock))
-      (bit w.valid.0 (get_or run t no_clock)) (bit busy.0 (get_or run t no_clock)) (bit (g + 1) (get_or run t no_clock))
-      (bit (at.base + 2) (get_or run t no_clock)) (gate 2 w.valid.0 (at.base + 1) busy.0 refl t l) (gate 3 (at.base + 2) w.valid.0 (at.base + 1) refl t l)
+      step (bit w.reset.0 (unwrap_or (slice_get run t) no_clock)) (bit (at.base + 4) (unwrap_or (slice_get run t) no_clock))
+      (bit w.first.0 (unwrap_or (slice_get run t) no_clock))
+      (bit w.valid.0 (unwrap_or (slice_get run t) no_clock)) (bit busy.0 (unwrap_or (slice_get run t) no_clock))
+      (bit (g + 1) (unwrap_or (slice_get run t) no_clock))
+      (bit (at.base + 2) (unwrap_or (slice_get run t) no_clock)) (gate 2 w.valid.0 (at.base + 1) busy.0 refl t l)
+      (gate 3 (at.base + 2) w.valid.0 (at.base + 1) refl t l)
       (gate 4 (g + 1) (g + 3) (at.base + 1) refl t l)
       (gate 5 w.first.0 (g + 2) (g + 4) refl t l) (gate 6 (at.base + 4) at.base (g + 5) refl t l) (gate 7 w.reset.0 (at.base + 1) (g + 6) refl t l) (low t l)
       (high t l)
@@ -152,12 +161,15 @@ module _ (all : List SizedCell) (w : Wires) (at : Places) (wait : ℕ) (busy : N
       step reset two first valid busy takes current e2 e3 e4 e5 e6 e7 lo hi = rw (e7, e6, e5, e4, e3, e2, lo, hi)
           (enable_is reset two first valid busy takes current)
 
-  ready_at : (t : ℕ) → t < length run → bit (g + 10) (get_or run t no_clock)
-      ≡ (not (bit (at.base + 4) (get_or run t no_clock)) && (bit (g + 1)
-      (get_or run t no_clock) && (bit w.first.0 (get_or run t no_clock) || bit (at.base + 2) (get_or run t no_clock))))
+  ready_at : (t : ℕ) → t < length run → bit (g + 10) (unwrap_or (slice_get run t) no_clock)
+      ≡ (not (bit (at.base + 4) (unwrap_or (slice_get run t) no_clock)) && (bit (g + 1)
+      (unwrap_or (slice_get run t) no_clock) && (bit w.first.0 (unwrap_or (slice_get run t) no_clock) || bit (at.base + 2)
+      (unwrap_or (slice_get run t) no_clock))))
   ready_at t l =
-      step (bit (at.base + 4) (get_or run t no_clock)) (bit (g + 1) (get_or run t no_clock)) (bit w.first.0 (get_or run t no_clock))
-      (bit (at.base + 2) (get_or run t no_clock)) (gate 8 w.first.0 (at.base + 1) (at.base + 2) refl t l) (gate 9 (g + 1) (g + 8) at.base refl t l)
+      step (bit (at.base + 4) (unwrap_or (slice_get run t) no_clock)) (bit (g + 1) (unwrap_or (slice_get run t) no_clock))
+      (bit w.first.0 (unwrap_or (slice_get run t) no_clock))
+      (bit (at.base + 2) (unwrap_or (slice_get run t) no_clock)) (gate 8 w.first.0 (at.base + 1) (at.base + 2) refl t l)
+      (gate 9 (g + 1) (g + 8) at.base refl t l)
       (gate 10 (at.base + 4) at.base (g + 9) refl t l) (low t l) (high t l)
     where
       step : (two takes first current : Bool) {lo hi y8 y9 y10 : Bool} → y8 ≡ (if first then hi else current) → y9 ≡ (if takes then y8 else lo)
@@ -165,36 +177,41 @@ module _ (all : List SizedCell) (w : Wires) (at : Places) (wait : ℕ) (busy : N
           → y10 ≡ (not two && (takes && (first || current)))
       step two takes first current e8 e9 e10 lo hi = rw (e10, e9, e8, lo, hi) (ready_is two takes first current)
 
-  shows_at : (t : ℕ) → t < length run → bit (g + 12) (get_or run t no_clock)
-      ≡ (bit w.late.0 (get_or run t no_clock) && (if bit w.behind.0 (get_or run t no_clock) then bit (at.base + 5 + at.blocks) (get_or run t no_clock) else bit
-      (flag_net at at.blocks) (get_or run t no_clock)))
+  shows_at : (t : ℕ) → t < length run → bit (g + 12) (unwrap_or (slice_get run t) no_clock)
+      ≡ (bit w.late.0 (unwrap_or (slice_get run t) no_clock) && (if bit w.behind.0 (unwrap_or (slice_get run t) no_clock) then bit (at.base + 5 + at.blocks)
+      (unwrap_or (slice_get run t) no_clock) else bit
+      (flag_net at at.blocks) (unwrap_or (slice_get run t) no_clock)))
   shows_at t l =
-      step (bit w.late.0 (get_or run t no_clock)) (gate 11 w.behind.0 (at.base + 5 + at.blocks) (flag_net at at.blocks) refl t l)
+      step (bit w.late.0 (unwrap_or (slice_get run t) no_clock)) (gate 11 w.behind.0 (at.base + 5 + at.blocks) (flag_net at at.blocks) refl t l)
       (gate 12 w.late.0 (g + 11) at.base refl t l) (low t l)
     where
       step : (late : Bool) {lo read y11 y12 : Bool} → y11 ≡ read → y12 ≡ (if late then y11 else lo) → lo ≡ false → y12 ≡ (late && read)
       step late {read = read} e11 e12 off = rw (e12, e11, off) (and_is late read)
 
-  put_at : (t : ℕ) → t < length run → bit (g + 13) (get_or run t no_clock) ≡ (if bit (g + 7) (get_or run t no_clock) then bit (g + 12)
-      (get_or run t no_clock) else false)
+  put_at : (t : ℕ) → t < length run → bit (g + 13) (unwrap_or (slice_get run t) no_clock) ≡ (if bit (g + 7) (unwrap_or (slice_get run t) no_clock) then bit
+      (g + 12)
+      (unwrap_or (slice_get run t) no_clock) else false)
   put_at t l = gate 13 (g + 7) (g + 12) at.base refl t l ∙
-      ap (λ v. if bit (g + 7) (get_or run t no_clock) then bit (g + 12) (get_or run t no_clock) else v) (low t l)
+      ap (λ v. if bit (g + 7) (unwrap_or (slice_get run t) no_clock) then bit (g + 12) (unwrap_or (slice_get run t) no_clock) else v) (low t l)
 
-  pop_at : (t : ℕ) → t < length run → bit (g + 14) (get_or run t no_clock) ≡ (if bit (at.base + 3) (get_or run t no_clock) then bit w.ready.0
-      (get_or run t no_clock) else false)
+  pop_at : (t : ℕ) → t < length run → bit (g + 14) (unwrap_or (slice_get run t) no_clock) ≡ (if bit (at.base + 3)
+      (unwrap_or (slice_get run t) no_clock) then bit w.ready.0
+      (unwrap_or (slice_get run t) no_clock) else false)
   pop_at t l = gate 14 (at.base + 3) w.ready.0 at.base refl t l ∙
-      ap (λ v. if bit (at.base + 3) (get_or run t no_clock) then bit w.ready.0 (get_or run t no_clock) else v) (low t l)
+      ap (λ v. if bit (at.base + 3) (unwrap_or (slice_get run t) no_clock) then bit w.ready.0 (unwrap_or (slice_get run t) no_clock) else v) (low t l)
 
-  one_at : (t : ℕ) → t + 1 < length run → bit (at.base + 3) (get_or run (t + 1) no_clock)
-      ≡ (if bit w.reset.0 (get_or run t no_clock) then false
-      else next_one (bit (at.base + 3) (get_or run t no_clock)) (bit (at.base + 4) (get_or run t no_clock))
-      (bit (g + 7) (get_or run t no_clock) && bit (g + 12) (get_or run t no_clock))
-      (bit (at.base + 3) (get_or run t no_clock) && bit w.ready.0 (get_or run t no_clock)))
+  one_at : (t : ℕ) → t + 1 < length run → bit (at.base + 3) (unwrap_or (slice_get run (t + 1)) no_clock)
+      ≡ (if bit w.reset.0 (unwrap_or (slice_get run t) no_clock) then false
+      else next_one (bit (at.base + 3) (unwrap_or (slice_get run t) no_clock)) (bit (at.base + 4) (unwrap_or (slice_get run t) no_clock))
+      (bit (g + 7) (unwrap_or (slice_get run t) no_clock) && bit (g + 12) (unwrap_or (slice_get run t) no_clock))
+      (bit (at.base + 3) (unwrap_or (slice_get run t) no_clock) && bit w.ready.0 (unwrap_or (slice_get run t) no_clock)))
   one_at t k =
       let l : t < length run = omega arith in
       register 1 (at.base + 3) (g + 23) (omega arith) (omega arith) (omega arith) t k
-      ∙ step (bit w.reset.0 (get_or run t no_clock)) (bit (at.base + 3) (get_or run t no_clock)) (bit (at.base + 4) (get_or run t no_clock))
-      (bit (g + 7) (get_or run t no_clock)) (bit (g + 12) (get_or run t no_clock)) (bit w.ready.0 (get_or run t no_clock)) (put_at t l) (pop_at t l)
+      ∙ step (bit w.reset.0 (unwrap_or (slice_get run t) no_clock)) (bit (at.base + 3) (unwrap_or (slice_get run t) no_clock))
+      (bit (at.base + 4) (unwrap_or (slice_get run t) no_clock))
+      (bit (g + 7) (unwrap_or (slice_get run t) no_clock)) (bit (g + 12) (unwrap_or (slice_get run t) no_clock))
+      (bit w.ready.0 (unwrap_or (slice_get run t) no_clock)) (put_at t l) (pop_at t l)
       (gate 15 (g + 14) at.base (at.base + 3) refl t l) (gate 16 (g + 13) (at.base + 1) (g + 15) refl t l)
       (gate 22 (at.base + 4) (at.base + 1) (g + 16) refl t l) (gate 23 w.reset.0 at.base (g + 22) refl t l) (low t l) (high t l)
     where
@@ -205,16 +222,18 @@ module _ (all : List SizedCell) (w : Wires) (at : Places) (wait : ℕ) (busy : N
       step reset one two enable shows ready e13 e14 e15 e16 e22 e23 lo hi = rw (e23, e22, e16, e15, e14, e13, lo, hi)
           (ap (λ v. if reset then false else v) (one_is one two enable shows ready))
 
-  two_at : (t : ℕ) → t + 1 < length run → bit (at.base + 4) (get_or run (t + 1) no_clock)
-      ≡ (if bit w.reset.0 (get_or run t no_clock) then false
-      else next_two (bit (at.base + 3) (get_or run t no_clock)) (bit (at.base + 4) (get_or run t no_clock))
-      (bit (g + 7) (get_or run t no_clock) && bit (g + 12) (get_or run t no_clock))
-      (bit (at.base + 3) (get_or run t no_clock) && bit w.ready.0 (get_or run t no_clock)))
+  two_at : (t : ℕ) → t + 1 < length run → bit (at.base + 4) (unwrap_or (slice_get run (t + 1)) no_clock)
+      ≡ (if bit w.reset.0 (unwrap_or (slice_get run t) no_clock) then false
+      else next_two (bit (at.base + 3) (unwrap_or (slice_get run t) no_clock)) (bit (at.base + 4) (unwrap_or (slice_get run t) no_clock))
+      (bit (g + 7) (unwrap_or (slice_get run t) no_clock) && bit (g + 12) (unwrap_or (slice_get run t) no_clock))
+      (bit (at.base + 3) (unwrap_or (slice_get run t) no_clock) && bit w.ready.0 (unwrap_or (slice_get run t) no_clock)))
   two_at t k =
       let l : t < length run = omega arith in
       register 2 (at.base + 4) (g + 25) (omega arith) (omega arith) (omega arith) t k
-      ∙ step (bit w.reset.0 (get_or run t no_clock)) (bit (at.base + 3) (get_or run t no_clock)) (bit (at.base + 4) (get_or run t no_clock))
-      (bit (g + 7) (get_or run t no_clock)) (bit (g + 12) (get_or run t no_clock)) (bit w.ready.0 (get_or run t no_clock)) (put_at t l) (pop_at t l)
+      ∙ step (bit w.reset.0 (unwrap_or (slice_get run t) no_clock)) (bit (at.base + 3) (unwrap_or (slice_get run t) no_clock))
+      (bit (at.base + 4) (unwrap_or (slice_get run t) no_clock))
+      (bit (g + 7) (unwrap_or (slice_get run t) no_clock)) (bit (g + 12) (unwrap_or (slice_get run t) no_clock))
+      (bit w.ready.0 (unwrap_or (slice_get run t) no_clock)) (put_at t l) (pop_at t l)
       (gate 17 (at.base + 3) (g + 13) at.base refl t l) (gate 18 (at.base + 4) (at.base + 1) (g + 17) refl t l)
       (gate 24 (g + 14) at.base (g + 18) refl t l) (gate 25 w.reset.0 at.base (g + 24) refl t l) (low t l) (high t l)
     where
@@ -225,23 +244,27 @@ module _ (all : List SizedCell) (w : Wires) (at : Places) (wait : ℕ) (busy : N
       step reset one two enable shows ready e13 e14 e17 e18 e24 e25 lo hi = rw (e25, e24, e18, e17, e14, e13, lo, hi)
           (ap (λ v. if reset then false else v) (two_is one two enable shows ready))
 
-  current_at : (t : ℕ) → t + 1 < length run → bit (at.base + 2) (get_or run (t + 1) no_clock)
-      ≡ (if bit (g + 7) (get_or run t no_clock) then bit g (get_or run t no_clock) else bit (at.base + 2) (get_or run t no_clock))
+  current_at : (t : ℕ) → t + 1 < length run → bit (at.base + 2) (unwrap_or (slice_get run (t + 1)) no_clock)
+      ≡ (if bit (g + 7) (unwrap_or (slice_get run t) no_clock) then bit g (unwrap_or (slice_get run t) no_clock) else bit (at.base + 2)
+      (unwrap_or (slice_get run t) no_clock))
   current_at t k =
       register 0 (at.base + 2) (g + 21) (omega arith) (omega arith) (omega arith) t k
       ∙ gate 21 (g + 7) g (at.base + 2) refl t (omega arith)
 
-  flag_at : (j : ℕ) → j ≤ at.blocks → (t : ℕ) → t + 1 < length run → bit (at.base + 5 + j) (get_or run (t + 1) no_clock)
-      ≡ (if bit w.reset.0 (get_or run t no_clock) then false
-      else (if bit (g + 7) (get_or run t no_clock)
-      then (if bit w.last.0 (get_or run t no_clock) then bit (flag_net at j) (get_or run t no_clock) else bit (at.base + 5 + j) (get_or run t no_clock))
-      else bit (at.base + 5 + j) (get_or run t no_clock)))
+  flag_at : (j : ℕ) → j ≤ at.blocks → (t : ℕ) → t + 1 < length run → bit (at.base + 5 + j) (unwrap_or (slice_get run (t + 1)) no_clock)
+      ≡ (if bit w.reset.0 (unwrap_or (slice_get run t) no_clock) then false
+      else (if bit (g + 7) (unwrap_or (slice_get run t) no_clock)
+      then (if bit w.last.0 (unwrap_or (slice_get run t) no_clock) then bit (flag_net at j) (unwrap_or (slice_get run t) no_clock) else bit (at.base + 5 + j)
+      (unwrap_or (slice_get run t) no_clock))
+      else bit (at.base + 5 + j) (unwrap_or (slice_get run t) no_clock)))
   flag_at j few t k =
       let l : t < length run = omega arith in
       let f : IsFlagGate all w.reset at j = h.flags j (omega arith) in
       register (3 + j) (at.base + 5 + j) (g + 27 + 2 * j) (omega arith) (omega arith) (omega arith) t k
-      ∙ step (bit w.reset.0 (get_or run t no_clock)) (bit (g + 7) (get_or run t no_clock)) (bit w.last.0 (get_or run t no_clock))
-      (bit (flag_net at j) (get_or run t no_clock)) (bit (at.base + 5 + j) (get_or run t no_clock)) (gate 20 (g + 7) w.last.0 at.base refl t l)
+      ∙ step (bit w.reset.0 (unwrap_or (slice_get run t) no_clock)) (bit (g + 7) (unwrap_or (slice_get run t) no_clock))
+      (bit w.last.0 (unwrap_or (slice_get run t) no_clock))
+      (bit (flag_net at j) (unwrap_or (slice_get run t) no_clock)) (bit (at.base + 5 + j) (unwrap_or (slice_get run t) no_clock))
+      (gate 20 (g + 7) w.last.0 at.base refl t l)
       (choice_at (g + 26 + 2 * j) (g + 20) (flag_net at j) (at.base + 5 + j) f.turns t l)
       (choice_at (g + 27 + 2 * j) w.reset.0 at.base (g + 26 + 2 * j) f.clears t l) (low t l)
     where
@@ -250,25 +273,27 @@ module _ (all : List SizedCell) (w : Wires) (at : Places) (wait : ℕ) (busy : N
           → y27 ≡ (if reset then false else (if enable then (if last then a else b) else b))
       step reset enable last a b e20 e26 e27 lo = rw (e27, e26, e20, lo) (flag_is reset enable last a b)
 
-  moves_at : (t : ℕ) → t < length run → bit (g + 19) (get_or run t
-      no_clock) ≡ ((bit (at.base + 3) (get_or run t no_clock) && bit w.ready.0 (get_or run t no_clock)) || not (bit (at.base + 3) (get_or run t no_clock)))
+  moves_at : (t : ℕ) → t < length run → bit (g + 19) (unwrap_or
+      (slice_get run t) no_clock) ≡ ((bit (at.base + 3) (unwrap_or (slice_get run t) no_clock) && bit w.ready.0 (unwrap_or (slice_get run t) no_clock)) || not
+      (bit (at.base + 3) (unwrap_or (slice_get run t) no_clock)))
   moves_at t l =
-      step (bit (at.base + 3) (get_or run t no_clock)) (bit w.ready.0 (get_or run t no_clock)) (pop_at t l)
+      step (bit (at.base + 3) (unwrap_or (slice_get run t) no_clock)) (bit w.ready.0 (unwrap_or (slice_get run t) no_clock)) (pop_at t l)
       (gate 19 (at.base + 3) (g + 14) (at.base + 1) refl t l) (high t l)
     where
       step : (one ready : Bool) {hi y14 y19 : Bool} → y14 ≡ (if one then ready else false) → y19 ≡ (if one then y14 else hi) → hi ≡ true
           → y19 ≡ ((one && ready) || not one)
       step one ready e14 e19 hi = rw (e19, e14, hi) (moves_is one ready)
 
-  first_takes : (t : ℕ) → t < length run → bit w.first.0 (get_or run t no_clock) ≡ true → bit (g + 1) (get_or run t no_clock) ≡ true
-  first_takes t l on = takes_at t l ∙ ap (λ v. v || bit w.wants.0 (get_or run t no_clock)) on
+  first_takes : (t : ℕ) → t < length run → bit w.first.0 (unwrap_or (slice_get run t) no_clock) ≡ true
+      → bit (g + 1) (unwrap_or (slice_get run t) no_clock) ≡ true
+  first_takes t l on = takes_at t l ∙ ap (λ v. v || bit w.wants.0 (unwrap_or (slice_get run t) no_clock)) on
 
   -- a bit of several that is 1 makes what is made of them 1
-  any_at : (k : ℕ) → k ≤ wait → (j : ℕ) → j < k → (t : ℕ) → t < length run → bit (at.base + 5 + j) (get_or run t no_clock) ≡ true
-      → bit (any_net at.base (at.base + at.blocks + 6) k) (get_or run t no_clock) ≡ true
+  any_at : (k : ℕ) → k ≤ wait → (j : ℕ) → j < k → (t : ℕ) → t < length run → bit (at.base + 5 + j) (unwrap_or (slice_get run t) no_clock) ≡ true
+      → bit (any_net at.base (at.base + at.blocks + 6) k) (unwrap_or (slice_get run t) no_clock) ≡ true
   any_at zero few j soon t l on = absurd (omega arith)
   any_at (suc k) few j soon t l on =
-      let c : Clock = get_or run t no_clock in
+      let c : Clock = unwrap_or (slice_get run t) no_clock in
       let is = choice_at (at.base + at.blocks + 6 + k) (at.base + 5 + k) (at.base + 1) (any_net at.base (at.base + at.blocks + 6) k)
       (h.any.each k (omega (arith, few))) t l in
       elim (cases_eq j k) [
@@ -297,7 +322,7 @@ module _ (all : List SizedCell) (w : Wires) (at : Places) (wait : ℕ) (busy : N
     shows = shows_at;
     current = current_at;
     flag = flag_at;
-    busy = λ j soon t l on. ap (λ n. bit n (get_or run t no_clock)) h.any.last ∙ any_at wait (omega arith) j soon t l on;
+    busy = λ j soon t l on. ap (λ n. bit n (unwrap_or (slice_get run t) no_clock)) h.any.last ∙ any_at wait (omega arith) j soon t l on;
     one = one_at;
     two = two_at;
   }

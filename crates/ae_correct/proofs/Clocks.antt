@@ -1,9 +1,9 @@
 -- In runs that begin alike, the ports of a module have the words of its netlist's nets.
-use Rattle.std.proofs.Common.{ℕ, zero, suc, ◌≡◌, ◌+◌, ◌<◌, true, false, List, [], ◌∷◌, length, map, take, get_or, Some, slice_get, arith, refl, ap, sym, ◌∙◌}
+use Rattle.std.proofs.Common.{ℕ, zero, suc, ◌≡◌, ◌+◌, ◌<◌, true, false, List, [], ◌∷◌, length, map, take, Option, Some, slice_get, arith, refl, ap, sym, ◌∙◌}
 use Rattle.std.proofs.lemmas.List.{length-map}
-use Rattle.std.specs.Prelude.{codes}
+use Rattle.std.specs.Prelude.{codes, unwrap_or}
 use Rattle.std.specs.List.{enumerate_from}
-use Rattle.std.proofs.lemmas.Option.{none-some, same_Some, slice_get_within, get_or_from_slice_get}
+use Rattle.std.proofs.lemmas.Option.{none-some, same_Some, slice_get_within}
 use Rattle.ae_netlist.specs.declared.cell.NetId.{NetId}
 use Rattle.ae_netlist.specs.declared.cell.Port.{Port}
 use Rattle.ae_netlist.specs.declared.cell.Port.TheVariants.{In, Out}
@@ -67,8 +67,7 @@ module _ (lines : ℕ → ℕ) (n : Circuit) (many : ℕ) (ins outs : List Sized
       let same : map word (map (out_net many) outs) ≡ map shown n.outlets = ap (map word) (sym (outputs_filtered lines n.cells n.outlets many ins outs h)) ∙
       equal.outputs t below in
       let net : outlet_net n.outlets k ≡ o.0.net.0 =
-      ap (λ (x : NetId). x.0) (get_or_from_slice_get (map (λ (x : Outlet). x.net) n.outlets) k o.0.net (record { 0 = 0 })
-      (mapped_at (λ (x : Outlet). x.net) n.outlets k o.0 o.1)) in
+      ap (λ (x : Option NetId). (unwrap_or x (record { 0 = 0 })).0) (mapped_at (λ (x : Outlet). x.net) n.outlets k o.0 o.1) in
       same_Some _ _ (sym left ∙ ap (λ ws. slice_get ws k) same ∙ right) ∙ ap (word_at other t) (sym net)
 
 -- a reset run of the module is one of the netlist, whose first input is the reset
@@ -91,7 +90,8 @@ pub column_in : (lines : ℕ → ℕ) → (n : Circuit) (many : ℕ) (ss : List 
     (h : HavePorts n.cells n.outlets (reset_port ∷ net_side.input_ports (streams_of ss)) outs) (run : List ModuleClock) (other : List Clock)
     → BeginAlike (tree lines n.cells n.outlets many (reset_port ∷ net_side.input_ports (streams_of ss)) outs h) n run other → (t q column : ℕ) (s : StTree)
     → t < length run → slice_get ss q ≡ Some s → column < length (stream_widths (stream_of s))
-    → (clock_at run t).word (get_or (map name_of (param_ports q s)) column []) ≡ word_at other t (1 + columns_in (take q (streams_of ss)) + column)
+    → (clock_at run t).word (unwrap_or (slice_get (map name_of (param_ports q s)) column) []) ≡ word_at other t
+    (1 + columns_in (take q (streams_of ss)) + column)
 column_in lines n many ss outs h run other alike t q column s below found small =
     let at : ℕ → ℕ → ℕ → Port = λ param lane word. In param lane word in
     let c = column_at 1 false (at q) s column small in
@@ -110,7 +110,7 @@ pub column_out : (lines : ℕ → ℕ) → (n : Circuit) (many : ℕ) (rs : List
     (h : HavePorts n.cells n.outlets ins (net_side.output_ports (streams_of rs))) (run : List ModuleClock) (other : List Clock)
     → HaveEqualOutputs (tree lines n.cells n.outlets many ins (net_side.output_ports (streams_of rs)) h) n run other → (t q column : ℕ) (s : StTree)
     → t < length run → slice_get rs q ≡ Some s → column < length (stream_widths (stream_of s))
-    → (clock_at run t).word (get_or (map name_of (result_ports many q s)) column []) ≡ word_at other t
+    → (clock_at run t).word (unwrap_or (slice_get (map name_of (result_ports many q s)) column) []) ≡ word_at other t
     (outlet_net n.outlets (columns_in (take q (streams_of rs)) + column))
 column_out lines n many rs ins h run other equal t q column s below found small =
     let at : ℕ → ℕ → ℕ → Port = λ result lane word. Out result lane word in

@@ -1,6 +1,6 @@
 -- The words on a module's inputs, where its netlist takes rows.
 use Rattle.std.proofs.Common.{ℕ, zero, suc, ◌≡◌, ◌+◌, ◌<◌, ◌≤◌, false, cond, List, [], ◌∷◌, length, map, take, get_or, Some, slice_get, arith, refl, ap, sym, ◌∙◌}
-use Rattle.std.specs.Prelude.{codes}
+use Rattle.std.specs.Prelude.{codes, unwrap_or}
 use Rattle.std.proofs.lemmas.List.Sums.{sum_by-cons}
 use Rattle.std.proofs.lemmas.Option.{slice_get_within}
 use Rattle.ae_netlist.specs.declared.cell.Port.{Port}
@@ -60,7 +60,7 @@ module _ (lines : ℕ → ℕ) (n : Circuit) (many : ℕ) (ss : List StTree) (ou
       ∙ taken n.cells (reset_port ∷ net_side.input_ports (streams_of ss)) rows other t 0 reset_port h.inputs takes room refl
 
   pub input_row : (t q column : ℕ) (s : StTree) → t < length run → slice_get ss q ≡ Some s → column < length (stream_widths (stream_of s))
-      → (clock_at run t).word (get_or (map name_of (param_ports q s)) column []) ≡ get_or (get_or rows t [])
+      → (clock_at run t).word (unwrap_or (slice_get (map name_of (param_ports q s)) column) []) ≡ get_or (get_or rows t [])
       (suc (columns_in (take q (streams_of ss)) + column)) 0
   input_row t q column s below found small =
       let room : t < length rows = omega (arith, below, alike.long, long) in

@@ -1,7 +1,8 @@
 -- The module of a circuit for a program keeps blocks: those that its inputs hold give those of the program's results.
-use Rattle.std.proofs.Common.{ℕ, zero, suc, ◌≡◌, ◌+◌, ◌*◌, ◌<◌, ◌≤◌, List, ◌∷◌, length, map, take, Some, slice_get, arith, ap, sym, ◌∙◌, subst}
+use Rattle.std.proofs.Common.{ℕ, zero, suc, ◌≡◌, ◌+◌, ◌*◌, ◌<◌, ◌≤◌, List, ◌∷◌, length, map, take, Option, Some, slice_get, arith, ap, sym, ◌∙◌, subst}
 use Rattle.std.proofs.lemmas.Nat.{mul-add-lt, row_fits}
-use Rattle.std.proofs.lemmas.Option.{same_Some, slice_get_within, get_or_from_slice_get}
+use Rattle.std.proofs.lemmas.Option.{same_Some, slice_get_within}
+use Rattle.std.specs.Prelude.{unwrap_or}
 use Rattle.ae_seqtype.specs.ValueTree.{ValueTree, flat}
 use Rattle.ae_sttype.specs.declared.st_type.Slot.{Slot}
 use Rattle.ae_sttype.specs.StTree.{StTree, time, lanes, st_atoms, element_words}
@@ -43,7 +44,7 @@ pub holds_alike : (k : ℕ) (s : StTree) (wave other : Wave) (ws : List ℕ) →
     → Holds wave k (element_words s) (slots s) ws
 holds_alike k s wave other ws size agree h e j w found below =
     let within : e < st_atoms s = (let i = slice_get_within (slots s) e w found in omega (arith, i, length-slots s)) in
-    let is : slot_of s e ≡ w = get_or_from_slice_get (slots s) e w (slot_at 0 0) found in
+    let is : slot_of s e ≡ w = ap (λ (o : Option Slot). unwrap_or o (slot_at 0 0)) found in
     let b = slot_below s size.lengths e within in
     let clock : w.clock < time s = subst (λ (x : Slot). x.clock < time s) is b.0 in
     let lane : w.lane < lanes s = subst (λ (x : Slot). x.lane < lanes s) is b.1 in

@@ -1,8 +1,9 @@
 -- The ports of a module, by those of its netlist: the same in order, with their names.
-use Rattle.std.proofs.Common.{ℕ, zero, suc, ◌≡◌, ◌+◌, ◌<◌, Bool, List, [], ◌∷◌, ◌++◌, length, map, get_or, Some, slice_get, arith, refl, ap, sym, ◌∙◌}
+use Rattle.std.proofs.Common.{ℕ, zero, suc, ◌≡◌, ◌+◌, ◌<◌, Bool, List, [], ◌∷◌, ◌++◌, length, map, Option, Some, slice_get, arith, refl, ap, sym, ◌∙◌}
 use Rattle.std.specs.Option.{option_map}
+use Rattle.std.specs.Prelude.{unwrap_or}
 use Rattle.std.proofs.lemmas.List.{map-append}
-use Rattle.std.proofs.lemmas.Option.{slice_get-map, get_or_from_slice_get}
+use Rattle.std.proofs.lemmas.Option.{slice_get-map}
 use Rattle.ae_word.specs.AtomTree.{WordKind, atom_kinds}
 use Rattle.ae_netlist.specs.declared.cell.Port.{Port}
 use Rattle.ae_sttype.specs.StTree.{StTree, lanes, element_atom}
@@ -51,7 +52,7 @@ mapped_at f xs k x h = slice_get-map f xs k ∙ ap (option_map f) h
 pub record IsColumn (outs : ℕ) (out : Bool) (at : ℕ → ℕ → Port) (s : StTree) (column : ℕ) : Type 0 where
   pub port : SizedPort
   pub here : slice_get (stream_ports at (stream_of s)) column ≡ Some port
-  pub named : get_or (map name_of (bundle_ports (λ lane word. port_name outs (at lane word)) out s)) column [] ≡ port_name outs port.port
+  pub named : unwrap_or (slice_get (map name_of (bundle_ports (λ lane word. port_name outs (at lane word)) out s)) column) [] ≡ port_name outs port.port
 
 pub column_at : (outs : ℕ) (out : Bool) (at : ℕ → ℕ → Port) (s : StTree) (column : ℕ) → column < length (stream_widths (stream_of s))
     → IsColumn outs out at s column
@@ -64,6 +65,6 @@ column_at outs out at s column below =
     record {
       port = p;
       here = e.1;
-      named = get_or_from_slice_get (map name_of (bundle_ports (λ lane word. port_name outs (at lane word)) out s)) column (port_name outs p.port) []
+      named = ap (λ (o : Option (List ℕ)). unwrap_or o [])
           (mapped_at name_of (bundle_ports (λ lane word. port_name outs (at lane word)) out s) column (module_port outs out p) own);
     }

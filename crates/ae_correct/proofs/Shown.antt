@@ -1,9 +1,9 @@
 -- What a circuit shows of a run on blocks, its module shows.
-use Rattle.std.proofs.Common.{ℕ, zero, suc, All, ◌≡◌, ◌+◌, ◌*◌, ◌<◌, ◌≤◌, List, [], length, map, take, get_or, Some, slice_get, arith, refl, ap, sym, ◌∙◌, subst}
-use Rattle.std.specs.Prelude.{codes}
+use Rattle.std.proofs.Common.{ℕ, zero, suc, All, ◌≡◌, ◌+◌, ◌*◌, ◌<◌, ◌≤◌, List, [], length, map, take, get_or, Option, Some, slice_get, arith, refl, ap, sym, ◌∙◌, subst}
+use Rattle.std.specs.Prelude.{codes, unwrap_or}
 use Rattle.std.proofs.lemmas.List.Elements.{All-get_or}
 use Rattle.std.proofs.lemmas.Nat.{row_fits}
-use Rattle.std.proofs.lemmas.Option.{slice_get_within, get_or_from_slice_get}
+use Rattle.std.proofs.lemmas.Option.{slice_get_within}
 use Rattle.ae_seqtype.specs.ValueTree.{ValueTree, flat}
 use Rattle.ae_sttype.specs.declared.st_type.Slot.{Slot}
 use Rattle.ae_sttype.specs.StTree.{StTree, time, lanes, st_atoms, element_words}
@@ -101,11 +101,12 @@ module _ (lines : ℕ → ℕ) (p : ProgramTree) (slowdown : ℕ) (costs : OwnCo
 
     holds_at : (b q e j : ℕ) (x : StTree) (w : Slot) (block : List ValueTree) → slice_get blocks b ≡ Some block → slice_get ins q ≡ Some x
         → slice_get (slots x) e ≡ Some w → j < element_words x
-        → wave run 1 (param_ports q x) (b * slowdown + w.clock) (w.lane * element_words x + j) ≡ get_or (flat (at block q)) (e * element_words x + j) 0
+        → wave run 1 (param_ports q x) (b * slowdown + w.clock) (w.lane * element_words x + j) ≡ unwrap_or
+        (slice_get (flat (at block q)) (e * element_words x + j)) 0
     holds_at b q e j x w block there found slot word =
         let f = sizes q x found in
         let inside : e < st_atoms x = omega (arith, slice_get_within (slots x) e w slot, length-slots x) in
-        let is : slot_of x e ≡ w = get_or_from_slice_get (slots x) e w (slot_at 0 0) slot in
+        let is : slot_of x e ≡ w = ap (λ (o : Option Slot). unwrap_or o (slot_at 0 0)) slot in
         let bounds = slot_below x f.size.lengths e inside in
         let clock : w.clock < time x = subst (λ (y : Slot). y.clock < time x) is bounds.0 in
         let lane : w.lane < lanes x = subst (λ (y : Slot). y.lane < lanes x) is bounds.1 in

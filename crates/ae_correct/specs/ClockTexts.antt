@@ -1,5 +1,5 @@
 -- The clock lines, the sums and the words of a module: what its outputs show, clock by clock, in the run on given blocks.
-use Rattle.std.specs.Prelude.{◌≡◌, ℕ, ◌+◌, ◌*◌, ◌%◌, ◌^◌, ◌<◌, List, [], ◌∷◌, length, map, replicate, Option, Some, None, slice_get, get_or}
+use Rattle.std.specs.Prelude.{◌≡◌, ℕ, ◌+◌, ◌*◌, ◌%◌, ◌^◌, ◌<◌, List, [], ◌∷◌, length, map, replicate, Option, Some, None, slice_get, unwrap_or}
 use Rattle.ae_word.specs.AtomTree.{WordKind, atom_kinds}
 use Rattle.ae_seqtype.specs.ValueTree.{ValueTree}
 use Rattle.ae_sttype.specs.declared.st_type.Slot.{Slot}
@@ -32,7 +32,8 @@ pub record IsTaken (s : StTree) (slowdown blocks lane t : ℕ) : Type 0 where
 
 -- the fill, in the width of a word of an element
 abbrev pub fill_word : (fill : ℕ) → StTree → (word : ℕ) → ℕ
-fill_word fill s j = get_or (map (λ (k : WordKind). fill % 2 ^ k.width) (atom_kinds (element_atom s))) j 0
+fill_word fill s j =
+    unwrap_or (slice_get (map (λ (k : WordKind). fill % 2 ^ k.width) (atom_kinds (element_atom s))) j) 0
 
 -- the inputs hold the fill wherever no element of a block stands
 pub record AreFilled (run : List ModuleClock) (slowdown fill blocks : ℕ) (inputs : List StTree) : Type 0 where

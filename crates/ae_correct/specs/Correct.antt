@@ -1,6 +1,6 @@
 -- When a module is correct for a program: its ports, its clock, and the values that its outputs hold, block after block, by
 -- the space-time types of Durst et al. (PLDI 2020).
-use Rattle.std.specs.Prelude.{◌≡◌, ℕ, zero, suc, ◌+◌, ◌*◌, ◌≤◌, Bool, true, false, ◌||◌, List, [], ◌∷◌, ◌++◌, length, map, filter, get_or, slice_get, Some, codes}
+use Rattle.std.specs.Prelude.{◌≡◌, ℕ, zero, suc, ◌+◌, ◌*◌, ◌≤◌, Bool, true, false, ◌||◌, List, [], ◌∷◌, ◌++◌, length, map, filter, unwrap_or, slice_get, Some, codes}
 use Rattle.ae_word.specs.AtomTree.{WordKind, atom_kinds}
 use Rattle.ae_seqtype.specs.ValueTree.{ValueTree, flat}
 use Rattle.ae_sttype.specs.StTree.{StTree, lanes, element_atom, element_words}
@@ -74,7 +74,7 @@ name_of x = x.name
 
 -- the word of a column of some ports, in a clock that is counted from the first without reset
 abbrev pub wave : List ModuleClock → (start : ℕ) → List ModulePort → (clock column : ℕ) → ℕ
-wave run start ports c column = (clock_at run (start + c)).word (get_or (map name_of ports) column [])
+wave run start ports c column = (clock_at run (start + c)).word (unwrap_or (slice_get (map name_of ports) column) [])
 
 -- from clock k on, the ports of each layout hold the value of its number
 pub record BundlesHold (run : List ModuleClock) (start k : ℕ) (ports : ℕ → StTree → List ModulePort)

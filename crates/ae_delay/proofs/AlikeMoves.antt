@@ -1,9 +1,10 @@
 -- Moves between layouts that differ only in the invalid slots at their end cost the same, but for what depends on the clocks
 -- in which blocks follow one another.
-use Rattle.std.proofs.Common.{ℕ, zero, suc, ◌≡◌, ◌+◌, ◌-◌, ◌*◌, ◌/◌, ◌%◌, ◌<◌, ◌≤◌, inl, inr, ◌⊎◌, Bool, true, false, ◌&&◌, cond, nat_eq, nat_le, List, [], ◌∷◌, map, sum_by, Some, slice_get, get_or, arith, refl, sym, ap, ◌∙◌}
+use Rattle.std.proofs.Common.{ℕ, zero, suc, ◌≡◌, ◌+◌, ◌-◌, ◌*◌, ◌/◌, ◌%◌, ◌<◌, ◌≤◌, inl, inr, ◌⊎◌, Bool, true, false, ◌&&◌, cond, nat_eq, nat_le, List, [], ◌∷◌, map, sum_by, Some, slice_get, arith, refl, sym, ap, ◌∙◌}
 use Rattle.std.specs.List.{range_with_len, list_all}
 use Rattle.std.proofs.lemmas.Bool.{cases_eq, le-leb}
 use Rattle.std.proofs.lemmas.List.Sums.{sum_by-cons}
+use Rattle.std.specs.Prelude.{unwrap_or}
 use Rattle.ae_sttype.specs.StTree.{StTree, atom, tseq, sseq, time, st_atoms, element_atom, element_words}
 use Rattle.ae_sttype.specs.Size.{IsInSize}
 use Rattle.ae_sttype.specs.Moves.{OriginTree, SourceTree, TripTree, latency_of_trips, runs_of, from_input, fixed, place, constant, age_from, are_held, column_delay, column_number, columns_of, delay_of, is_in_column, slot_number, source_clock, source_of, uses_of}
@@ -35,7 +36,7 @@ trips_by source out origins =
     map (λ o. let t : TripTree = record {
       clock = (slot_number out (o / element_words out)).clock;
       column = column_number out (o / element_words out) (o % element_words out);
-      source = source (get_or origins o (fixed 0));
+      source = source (unwrap_or (slice_get origins o) (fixed 0));
     } in t) (range_with_len 0 (st_atoms out * element_words out))
 
 out_trimmed : (source : OriginTree → SourceTree) (out : StTree) (origins : List OriginTree)
@@ -63,7 +64,7 @@ abbrev trip_by : (source : OriginTree → SourceTree) (out : StTree) (origins : 
 trip_by source out origins o = record {
   clock = (slot_number out (o / element_words out)).clock;
   column = column_number out (o / element_words out) (o % element_words out);
-  source = source (get_or origins o (fixed 0));
+  source = source (unwrap_or (slice_get origins o) (fixed 0));
 }
 
 trips_from : (a out : StTree) (origins : List OriginTree) → trips_by (source_of (a ∷ [])) out origins ≡ trips_by (source_of (trimmed a ∷ [])) out origins
@@ -74,7 +75,7 @@ trips_from a out origins =
       column = column_number out (o / element_words out) (o % element_words out);
       source = s;
     } in t)
-    (source_trimmed a (get_or origins o (fixed 0))))
+    (source_trimmed a (unwrap_or (slice_get origins o) (fixed 0))))
     (range_with_len 0 (st_atoms out * element_words out))
 
 trips_trimmed : (how : MoveOp) (a s : StTree) → move_trips (op_move how a s) ≡ move_trips (op_move how (trimmed a) (trimmed s))

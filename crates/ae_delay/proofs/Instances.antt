@@ -5,7 +5,8 @@ use Rattle.std.proofs.lemmas.Bool.{cases_lt}
 use Rattle.std.proofs.lemmas.List.{append-nil, get_or-append-add, get_or_append_left, length-map, length-take-le, map-append, take-append-drop, take_all}
 use Rattle.std.proofs.lemmas.List.Sums.{sum_by_push, sum_by-cons}
 use Rattle.std.proofs.lemmas.Grind.{flat_map-append}
-use Rattle.std.proofs.lemmas.Option.{same_Some, slice_get-get_or, get_or_from_slice_get, slice_get_read, slice_get_within}
+use Rattle.std.proofs.lemmas.Option.{same_Some, slice_get-get_or, get_or_from_slice_get, slice_get_read, slice_get_within, unwrap_or-slice_get}
+use Rattle.std.specs.Prelude.{unwrap_or}
 use Rattle.ae_seq.specs.Typing.{grown}
 use Rattle.ae_word.specs.AtomTree.{unsigned_word}
 use Rattle.ae_sttype.specs.StTree.{StTree, atom, sseq}
@@ -35,7 +36,7 @@ uses_below arrivals start items n h = record { each = λ k u f. below items k u 
   where
     below : (xs : List ℕ) (k : ℕ) (u : Use) → AllBelow xs n → slice_get (uses_at arrivals start xs) k ≡ Some u → u.item < n
     below [] k u h f = cc
-    below (x ∷ xs) zero u h f = (let v : Use = record { item = x; slack = start - get_or arrivals x 0 } in let e : v ≡ u = same_Some v u f in
+    below (x ∷ xs) zero u h f = (let v : Use = record { item = x; slack = start - unwrap_or (slice_get arrivals x) 0 } in let e : v ≡ u = same_Some v u f in
         rw (ap (λ (w : Use). w.item) (sym e)) (h 0 x refl))
     below (x ∷ xs) (suc k) u h f = below xs k u (λ i a g. h (suc i) a g) f
 
@@ -217,7 +218,8 @@ pub all_items : (k : ℕ) (s : StFuncTree) → IsSoundFunc k s → AreItems s.bu
 all_items k s h i l = elim (cases_lt i (length s.ins)) [
   | inl low ↦
       let f : slice_get s.ins i ≡ Some (get_or s.ins i none) = slice_get-get_or s.ins i none low in
-      rw (get_or_append_left s.ins (node_layouts s.nodes) none i low) (h.ins i (get_or s.ins i none) f)
+      rw (unwrap_or-slice_get (s.ins ++ node_layouts s.nodes) i none, get_or_append_left s.ins (node_layouts s.nodes) none i low)
+      (h.ins i (get_or s.ins i none) f)
   | inr high ↦
       let j : ℕ = i - length s.ins in
       let long : length (node_layouts s.nodes) ≡ length s.nodes = length-map s.nodes (λ (n : StNodeTree). n.type) in
@@ -226,7 +228,8 @@ all_items k s h i l = elim (cases_lt i (length s.ins)) [
       let f : slice_get s.nodes j ≡ Some n = slice_get-get_or s.nodes j no_node small in
       let g : slice_get (node_layouts s.nodes) j ≡ Some n.type = get_mapped (λ (x : StNodeTree). x.type) s.nodes j n f in
       let at : length s.ins + j ≡ i = omega (arith, high) in
-      let is : item_layout (item_layouts s) i ≡ n.type = ap (λ x. get_or (s.ins ++ node_layouts s.nodes) x none) (sym at) ∙
+      let is : item_layout (item_layouts s) i ≡ n.type = unwrap_or-slice_get (s.ins ++ node_layouts s.nodes) i none ∙
+      ap (λ x. get_or (s.ins ++ node_layouts s.nodes) x none) (sym at) ∙
       (get_or-append-add s.ins (node_layouts s.nodes) j none ∙ get_or_from_slice_get (node_layouts s.nodes) j n.type none g) in
       rw is (h.nodes j n f).layout
 ]
@@ -234,7 +237,8 @@ all_items k s h i l = elim (cases_lt i (length s.ins)) [
 layouts_same : (p rest : List StTree) (args : List ℕ) → AllBelow args (length p) → map (item_layout p) args ≡ map (item_layout (p ++ rest)) args
 layouts_same p rest [] h = refl
 layouts_same p rest (a ∷ args) h =
-    let here : item_layout p a ≡ item_layout (p ++ rest) a = sym (get_or_append_left p rest none a (h 0 a refl)) in
+    let here : item_layout p a ≡ item_layout (p ++ rest) a =
+    unwrap_or-slice_get p a none ∙ sym (get_or_append_left p rest none a (h 0 a refl)) ∙ sym (unwrap_or-slice_get (p ++ rest) a none) in
     ap (λ x. x ∷ map (item_layout p) args) here ∙ ap (λ xs. item_layout (p ++ rest) a ∷ xs) (layouts_same p rest args (λ i b f. h (suc i) b f))
 
 sound_wider : (k budget : ℕ) (p rest : List StTree) (n : StNodeTree) → IsSoundNode k budget p n → IsSoundNode k budget (p ++ rest) n

@@ -3,7 +3,7 @@ use Rattle.std.proofs.Common.{ℕ, ◌≡◌, ◌+◌, ◌-◌, ◌*◌, ◌<◌
 use Rattle.std.proofs.Math.Nat.{mul-le-mul}
 use Rattle.std.proofs.lemmas.Bool.{cases_lt}
 use Rattle.std.proofs.lemmas.List.{length-map, get_or-append-add, get_or_default, get_or_past, get_or-replicate, length-replicate}
-use Rattle.std.proofs.lemmas.Option.{get_or_from_slice_get, slice_get-get_or, slice_get_read}
+use Rattle.std.proofs.lemmas.Option.{get_or_from_slice_get, slice_get-get_or, slice_get_read, unwrap_or-slice_get}
 use Rattle.ae_word.specs.AtomTree.{unsigned_word}
 use Rattle.ae_sttype.specs.StTree.{StTree, atom, sseq, st_tree}
 use Rattle.ae_moves.proofs.Lists.{get_mapped}
@@ -34,6 +34,7 @@ layout_node s item n low found =
     let at : length (st_trees s.ins.items) + j ≡ item = omega (arith, length-map s.ins.items st_tree) in
     sym (ap (λ i. get_or (st_trees s.ins.items ++ ls) i none) (sym at) ∙ get_or-append-add (st_trees s.ins.items) ls j none ∙
     get_or_from_slice_get ls j (st_tree n.ty) none b)
+    ∙ sym (unwrap_or-slice_get (st_trees s.ins.items ++ ls) item none)
 
 pub node_at : (s : StFunc) (item ins : ℕ) (n : StNode) → ins ≡ length s.ins.items → ins ≤ item → item < length (item_layouts (st_func_tree s))
     → n ≡ get_or s.nodes.items (item - ins) n → st_tree n.ty ≡ item_layout (item_layouts (st_func_tree s)) item
@@ -85,7 +86,7 @@ known_as o a b e h = subst (IsKnown o) e h
 -- the costs of an instance that a node calls
 pub body_is : (costs : List OwnCosts) (k copies : ℕ) (a s : StTree) (op : StOpTree) (c : OwnCosts) → op ≡ body k → slice_get costs k ≡ Some c
     → body_costs copies c ≡ op_costs costs a s copies op
-body_is costs k copies a s op c e found = rw (e, get_or_from_slice_get costs k c wire_costs found) refl
+body_is costs k copies a s op c e found = rw (e, found) refl
 
 pub fixed_is : (costs : List OwnCosts) (words ws : List ℕ) (a s : StTree) (copies : ℕ) (op : StOpTree) → op ≡ fixed ws → words ≡ ws
     → constant_costs (costs_of_move (constant_move words s)) ≡ op_costs costs a s copies op

@@ -1,6 +1,8 @@
 -- When all arguments of a node have come: later items change nothing of it. Behind the last node stand the results.
-use Rattle.std.proofs.Common.{ℕ, suc, ◌≡◌, ◌+◌, ◌<◌, ◌≤◌, max, fold, List, [], ◌∷◌, ◌++◌, length, length-append, take, Some, slice_get, get_or, arith, refl, sym, ap, ◌∙◌}
+use Rattle.std.proofs.Common.{ℕ, suc, ◌≡◌, ◌+◌, ◌<◌, ◌≤◌, max, fold, List, [], ◌∷◌, ◌++◌, length, length-append, take, Some, slice_get, arith, refl, sym, ap, ◌∙◌}
 use Rattle.std.proofs.lemmas.List.{get_or_append_left, length-map, length-take-le, map-append, take_all}
+use Rattle.std.specs.Prelude.{unwrap_or}
+use Rattle.std.proofs.lemmas.Option.{unwrap_or-slice_get}
 use Rattle.ae_moves.proofs.Lists.{take_push}
 use Rattle.ae_netlist.proofs.Gets.{get_from_take, get_take_within}
 use Rattle.ae_rewrite.specs.declared.st_program.StFunc.{StFunc}
@@ -25,7 +27,8 @@ most_same f g a (x ∷ xs) same =
 
 pub latest_front : (xs ys items : List ℕ) → AllBelow items (length xs) → latest (xs ++ ys) items ≡ latest xs items
 latest_front xs ys items h =
-    most_same (λ a. get_or (xs ++ ys) a 0) (λ a. get_or xs a 0) 0 items (λ r i f. get_or_append_left xs ys 0 i (h r i f))
+    most_same (λ a. unwrap_or (slice_get (xs ++ ys) a) 0) (λ a. unwrap_or (slice_get xs a) 0) 0 items
+    (λ r i f. rw (unwrap_or-slice_get (xs ++ ys) i 0, unwrap_or-slice_get xs i 0) (get_or_append_left xs ys 0 i (h r i f)))
 
 meets_kept : (old ys : List ℕ) (nodes : List StNodeTree) → ((j : ℕ) (m : StNodeTree) → slice_get nodes j ≡ Some m → AllBelow m.args (length old))
     → meets_of (old ++ ys) nodes ≡ meets_of old nodes

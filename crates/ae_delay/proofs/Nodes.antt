@@ -1,6 +1,7 @@
 -- One node more.
 use Rattle.std.proofs.Common.{ℕ, ◌≡◌, ◌+◌, ◌≤◌, List, [], ◌∷◌, ◌++◌, length, Some, slice_get, get_or, arith}
-use Rattle.std.proofs.lemmas.Option.{slice_get-get_or}
+use Rattle.std.proofs.lemmas.Option.{slice_get-get_or, unwrap_or-slice_get}
+use Rattle.std.specs.Prelude.{unwrap_or}
 use Rattle.ae_sttype.specs.StTree.{StTree}
 use Rattle.ae_moves.proofs.Words.{lead_le}
 use Rattle.ae_rewrite.specs.StProgramTree.{StNodeTree}
@@ -15,7 +16,8 @@ use Rattle.ae_delay.specs.Weighing.{AllBelow, IsNext, deepened}
 pub latest_le : (arrivals items : List ℕ) (m : ℕ) → AllBelow items (length arrivals) → ((i a : ℕ) → slice_get arrivals i ≡ Some a → a ≤ m)
     → latest arrivals items ≤ m
 latest_le arrivals items m below early =
-    lead_le (λ a. get_or arrivals a 0) 0 m items (omega arith) (λ a k f. early a (get_or arrivals a 0) (slice_get-get_or arrivals a 0 (below k a f)))
+    lead_le (λ a. unwrap_or (slice_get arrivals a) 0) 0 m items (omega arith)
+    (λ a k f. rw (unwrap_or-slice_get arrivals a 0) (early a (get_or arrivals a 0) (slice_get-get_or arrivals a 0 (below k a f))))
 
 abbrev pub priced : (latency load muls : ℕ) → Cost
 priced a b c = record { latency = a; load = b; muls = c }

@@ -7,6 +7,7 @@ use Rattle.std.proofs.lemmas.List.FromFn.{length-map-range_with_len}
 use Rattle.std.proofs.lemmas.List.Elements.{All-from_get_or}
 use Rattle.std.proofs.lemmas.Nat.{div_below, mod_below}
 use Rattle.std.proofs.lemmas.Option.{slice_get-get_or}
+use Rattle.std.specs.Prelude.{unwrap_or}
 use Rattle.ae_sttype.specs.StTree.{time, st_atoms, element_words}
 use Rattle.ae_sttype.specs.Moves.{ChoiceTree, SourceTree, TripTree, place, constant, fixed, age_from, changes_after, choices_of, column_delay, column_runs, columns_of, delay_of, is_held, lead_from, runs_of, same_choice, stretches, trip_number, IsReached}
 use Rattle.ae_sttype.proofs.Places.{slot_below}
@@ -43,7 +44,7 @@ trips_within m trips d ins outs ed ei eo h e =
     let column : (trip_tree t).column < columns_of m.out = rw (ap (λ (v : TripTree). v.column) x.1)
     (column_below m.out h.out (n / element_words m.out) (n % element_words m.out) en (mod_below n (element_words m.out) (words_pos m.out))) in
     let within : InTree (sum_by columns_of m.ins) (trip_tree t).source = rw (ap (λ (v : TripTree). v.source) x.1)
-    (origin_in m.ins o.0 (get_or m.origins n (fixed 0)) (sizes_of m h) o.2) in
+    (origin_in m.ins o.0 (unwrap_or (slice_get m.origins n) (fixed 0)) (sizes_of m h) o.2) in
     let lead : lead_from (trip_tree t).clock (trip_tree t).source ≤ move_latency m = rw e at
     (fold_ge (λ (v : TripTree). lead_from v.clock v.source) 0 (map trip_tree trips) n (trip_tree t) (get_mapped trip_tree trips n t f)) in
     rw (ed, ei, eo) (record {

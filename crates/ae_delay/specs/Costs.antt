@@ -1,5 +1,5 @@
 -- When the items of an instance arrive, and what instances cost, each by those before it.
-use Rattle.std.specs.Prelude.{ℕ, ◌+◌, ◌-◌, ◌*◌, List, [], ◌∷◌, ◌++◌, map, length, take, sum_by, nat_lt, ◌==◌, Option, Some, None, slice_get, get_or, if◌then◌else◌}
+use Rattle.std.specs.Prelude.{ℕ, ◌+◌, ◌-◌, ◌*◌, List, [], ◌∷◌, ◌++◌, map, length, take, sum_by, nat_lt, ◌==◌, Option, Some, None, slice_get, unwrap_or, if◌then◌else◌}
 use Rattle.std.specs.List.{range_with_len, flat_map}
 use Rattle.std.specs.Option.{option_and_then}
 use Rattle.ae_seq.specs.Typing.{grown}
@@ -18,7 +18,7 @@ pub record Use : Type 0 where
 
 -- the latest arrival of these items, and 0 of none
 abbrev pub latest : (arrivals : List ℕ) → (items : List ℕ) → ℕ
-latest arrivals items = greatest (λ a. get_or arrivals a 0) items
+latest arrivals items = greatest (λ a. unwrap_or (slice_get arrivals a) 0) items
 
 -- when all arguments of each of these nodes have come
 abbrev pub meets_of : (arrivals : List ℕ) → List StNodeTree → List ℕ
@@ -30,7 +30,7 @@ func_meets arrivals s = meets_of arrivals s.nodes ++ latest arrivals s.results �
 
 -- items that are used together in clock `start`
 abbrev pub uses_at : (arrivals : List ℕ) (start : ℕ) → (items : List ℕ) → List Use
-uses_at arrivals start items = map (λ a. record { item = a; slack = start - get_or arrivals a 0 }) items
+uses_at arrivals start items = map (λ a. record { item = a; slack = start - unwrap_or (slice_get arrivals a) 0 }) items
 
 -- the registers of the delays: each column is delayed on its own
 abbrev pub slack_load : (layouts : List StTree) → List Use → ℕ
@@ -47,7 +47,8 @@ pub record NodeTiming : Type 0 where
   pub uses : List Use
 
 abbrev pub node_costs : (known : List OwnCosts) (layouts : List StTree) → StNodeTree → OwnCosts
-node_costs known layouts n = op_costs known (item_layout layouts (get_or n.args 0 0)) n.type n.copies n.op
+node_costs known layouts n =
+    op_costs known (item_layout layouts (unwrap_or (slice_get n.args 0) 0)) n.type n.copies n.op
 
 abbrev pub node_uses : (arrivals : List ℕ) → StNodeTree → List Use
 node_uses arrivals n = uses_at arrivals (latest arrivals n.args) n.args

@@ -1,5 +1,5 @@
 -- What a node costs by itself, apart from the delays before it.
-use Rattle.std.specs.Prelude.{ℕ, zero, suc, ◌+◌, ◌-◌, ◌*◌, ◌/◌, ◌^◌, nat_lt, nat_le, List, if◌then◌else◌, get_or}
+use Rattle.std.specs.Prelude.{ℕ, zero, suc, ◌+◌, ◌-◌, ◌*◌, ◌/◌, ◌^◌, nat_lt, nat_le, List, if◌then◌else◌, slice_get, unwrap_or}
 use Rattle.ae_word.specs.declared.op.WordOp.{WordOp}
 use Rattle.ae_word.specs.WordTable.{latency_of, row_of}
 use Rattle.ae_sttype.specs.StTree.{StTree, atom, tseq, sseq, time}
@@ -91,4 +91,4 @@ op_costs known a s copies (fixed ws) = constant_costs (costs_of_move (constant_m
 op_costs known a s copies (move how) = moved_costs (costs_of_move (op_move how a s))
 op_costs known a s copies (fold op slots lanes raw) = fold_costs op slots lanes raw (costs_of_move (op_move Same raw s))
 op_costs known a s copies (scan op slots lanes) = scan_costs op slots lanes s
-op_costs known a s copies (body k) = body_costs copies (get_or known k wire_costs)
+op_costs known a s copies (body k) = body_costs copies (unwrap_or (slice_get known k) wire_costs)

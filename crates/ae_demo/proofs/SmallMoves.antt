@@ -1,5 +1,6 @@
 -- A move in few clocks and of few words costs little.
-use Rattle.std.proofs.Common.{ℕ, suc, ◌≡◌, ◌+◌, ◌-◌, ◌*◌, ◌/◌, ◌<◌, ◌≤◌, Bool, true, false, cond, nat_eq, List, [], ◌∷◌, length, filter, sum_by, Some, slice_get, get_or, arith}
+use Rattle.std.proofs.Common.{ℕ, suc, ◌≡◌, ◌+◌, ◌-◌, ◌*◌, ◌/◌, ◌<◌, ◌≤◌, Bool, true, false, cond, nat_eq, List, [], ◌∷◌, length, filter, sum_by, Some, slice_get, arith}
+use Rattle.std.specs.Prelude.{unwrap_or}
 use Rattle.std.proofs.lemmas.List.{length-map}
 use Rattle.std.proofs.lemmas.List.FromFn.{length-map-range_with_len}
 use Rattle.std.proofs.lemmas.Nat.{div_below}
@@ -25,7 +26,7 @@ late m h =
     lead_le (λ (t : TripTree). lead_from t.clock t.source) 0 (time m.out) (move_trips m) (omega arith) (λ t n f.
     let x = numbered (trip_number m.ins m.out m.origins) (st_atoms m.out * element_words m.out) n t f in
     let o = origin_at m n h x.0 in
-    rw (← x.1) (source_lead m (slot_number m.out (n / element_words m.out)).clock o.0 (get_or m.origins n (fixed 0)) h o.2))
+    rw (← x.1) (source_lead m (slot_number m.out (n / element_words m.out)).clock o.0 (unwrap_or (slice_get m.origins n) (fixed 0)) h o.2))
 
 age_few : (d q c clocks : ℕ) (s : SourceTree) → d ≤ clocks → c < clocks → age_from d q c s ≤ 2 * clocks
 age_few d q c clocks (place k p) h l = aged (nat_eq p q) (c + d - k) (omega arith)

@@ -3,8 +3,9 @@ use Rattle.std.proofs.Common.{◌≡◌, ℕ, suc, ◌+◌, ◌<◌, ◌≤◌, 
 use Rattle.std.specs.List.{concat}
 use Rattle.std.proofs.lemmas.List.{length-map, map-append, take_more, take_all}
 use Rattle.std.proofs.lemmas.List.Folds.{concat-append}
-use Rattle.std.proofs.lemmas.Option.{get_or_from_slice_get, slice_get-map, slice_get_read}
+use Rattle.std.proofs.lemmas.Option.{slice_get-map, slice_get_read}
 use Rattle.std.specs.Option.{option_map}
+use Rattle.std.specs.Prelude.{unwrap_or}
 use Rattle.std.proofs.Math.Seq.{drop-append_seam, take-append_seam}
 use Rattle.ae_seqtype.specs.SeqTree.{SeqTree, words, kinds, seq_tree}
 use Rattle.ae_seqtype.specs.ValueTree.{value_of, Fit, flat}
@@ -137,8 +138,8 @@ mean-is p stack old inputs h known fit eo e =
     let args = values_of (params_in p k) inputs in
     let given : values_in (params_in p k) old ≡ args = ap (values_in (params_in p k)) eo ∙ all-values (params_in p k) inputs fit in
     let items : values_in (types_in p k) stack ≡ item_values means f args = e.values ∙ ap (items_in p k) given ∙ ap (λ o. values_for means o args) at-k.1 in
-    let function : get_or (meanings p.funcs) k no_function ≡ meaning means f = get_or_from_slice_get (meanings p.funcs) k (meaning means f) no_function
-    (meaning-of p k f at-k.1) in
+    let function : unwrap_or (slice_get (meanings p.funcs) k) no_function ≡ meaning means f =
+    ap (λ (o : Option Meaning). unwrap_or o no_function) (meaning-of p k f at-k.1) in
     ap (λ is. map (at (values_in (types_in p k) stack)) is) (ap results_for at-k.1) ∙ ap (λ vs. map (at vs) f.results) items ∙
     sym (ap (λ (m : Meaning). m args) function)
 

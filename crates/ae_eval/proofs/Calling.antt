@@ -1,7 +1,8 @@
 -- Functions on a stack: node by node, and a call.
 use Rattle.std.proofs.Common.{◌≡◌, ℕ, ◌+◌, ◌<◌, ◌≤◌, true, List, [], ◌∷◌, length, take, drop, map, Option, Some, slice_get, get_or, arith, sym, ap, ◌∙◌, subst, length-take}
 use Rattle.std.proofs.lemmas.List.{drop_all, get_or-take, length-map}
-use Rattle.std.proofs.lemmas.Option.{slice_get_within, get_or_from_slice_get}
+use Rattle.std.proofs.lemmas.Option.{slice_get_within, get_or_from_slice_get, unwrap_or-slice_get}
+use Rattle.std.specs.Prelude.{unwrap_or}
 use Rattle.std.proofs.lemmas.Bool.Decides.{nat_tests}
 use Rattle.ae_seqtype.specs.SeqTree.{SeqTree}
 use Rattle.ae_seqtype.specs.ValueTree.{ValueTree}
@@ -97,8 +98,8 @@ call-pushed p k base old mid new h known e push =
     let r = first.0 in
     let item : get_or (results_in p k) 0 0 ≡ r = ap (λ o. get_or (results_for o) 0 0) at-k.1 ∙ get_or_from_slice_get f.results 0 r 0 first.1 in
     let items : values_in (types_in p k) (drop base mid) ≡ item_values means f args = e.values ∙ ap (λ o. values_for means o args) at-k.1 in
-    let function : get_or (meanings p.funcs) k no_function ≡ meaning means f = get_or_from_slice_get (meanings p.funcs) k (meaning means f) no_function
-    (meaning-of p k f at-k.1) in
+    let function : unwrap_or (slice_get (meanings p.funcs) k) no_function ≡ meaning means f =
+    ap (λ (o : Option Meaning). unwrap_or o no_function) (meaning-of p k f at-k.1) in
     let value : at (values_in (types_in p k) (drop base mid)) (get_or (results_in p k) 0 0) ≡ applied (meanings p.funcs) k args =
     ap (at (values_in (types_in p k) (drop base mid))) item ∙ ap (λ vs. at vs r) items
     ∙ sym (ap (λ (m : Meaning). at (m args) 0) function ∙ at-first (at (item_values means f args)) f.results r first.1) in
@@ -108,7 +109,8 @@ call-pushed p k base old mid new h known e push =
 
 -- the meanings of all functions and of those above give a function above the same meaning
 pub applied-above : (p : ProgramTree) (k c : ℕ) (vs : List ValueTree) → c < k → applied (take k (meanings p.funcs)) c vs ≡ applied (meanings p.funcs) c vs
-applied-above p k c vs below = ap (λ (m : Meaning). at (m vs) 0) (get_or-take k (meanings p.funcs) c no_function below)
+applied-above p k c vs below = ap (λ (m : Meaning). at (m vs) 0) (unwrap_or-slice_get (take k (meanings p.funcs)) c no_function
+    ∙ get_or-take k (meanings p.funcs) c no_function below ∙ sym (unwrap_or-slice_get (meanings p.funcs) c no_function))
 
 -- ---- a node that calls a function
 

@@ -1,6 +1,7 @@
 -- The value of each form of expression, from those of its parts.
 use Rattle.std.proofs.Common.{ℕ, ◌≡◌, ◌==◌, if◌then◌else◌, true, List, get_or, Option, Result, IfOk, sym, ap, ◌∙◌}
 use Rattle.std.proofs.lemmas.Bool.{cond-true}
+use Rattle.std.proofs.lemmas.Option.{unwrap_or-slice_get}
 use Rattle.ae_word.specs.declared.op.WordOp.TheVariants as op
 use Rattle.ae_word.specs.WordTable.{bit, word_result}
 use Rattle.ae_netlist.specs.declared.cell.NetId.{NetId}
@@ -45,7 +46,8 @@ module _ (from : ℕ) (ns : List NetTree) (nets : List (Option NetId)) where
       → IsWord from cells y.0 w (λ run t. get_or ((read at run t).store n) (f run t) 0))
       → IfOk r (λ y. Has from ns nets cells y.0 w (index n a))
   index_arm before cells r n x u w a memory e p = ok_map r (λ y h at named. same_word _ _
-      (λ run t. ap (λ k. get_or ((read at run t).store n) (value_at ns (read at run t) k a) 0) e ∙ sym (cond-true _ _ _ memory))
+      (λ run t. ap (λ k. get_or ((read at run t).store n) (value_at ns (read at run t) k a) 0) e
+      ∙ (sym (unwrap_or-slice_get ((read at run t).store n) (value_at ns (read at run t) (own_width ns a) a) 0) ∙ sym (cond-true _ _ _ memory)))
       (h at _ named (p at named)))
 
   pub not_arm : {E : Type 0} (m1 m2 m3 : List SizedCell) (r : Result NetId E) (x z u w : ℕ) (a : ExprTree) → u ≡ own_width ns a → Has from ns nets m1 x u a

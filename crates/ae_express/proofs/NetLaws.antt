@@ -1,6 +1,7 @@
 -- The nets of names, as a netlist grows.
 use Rattle.std.proofs.Common.{ℕ, ◌≡◌, ◌/◌, ◌%◌, ◌^◌, ◌<◌, ◌≤◌, inl, inr, List, [], ◌∷◌, ◌++◌, length, get_or, Option, Some, true, false, slice_get, refl, sym, ap, ◌∙◌, subst}
 use Rattle.std.proofs.lemmas.Bool.{cond-true, cond-false}
+use Rattle.std.proofs.lemmas.Option.{unwrap_or-slice_get}
 use Rattle.ae_netlist.specs.declared.cell.NetId.{NetId}
 use Rattle.ae_netlist.specs.declared.cell.SizedCell.{SizedCell}
 use Rattle.ae_netlist.specs.Circuit.{Circuit, IsAddress, IsMemory, IsNet, IsPeek, width_of as net_width_of}
@@ -75,7 +76,8 @@ peek_word from old new y m at w u depth low i e f p =
       words = λ all k run is t l.
           let before : Carries from old.cells all = carries_trans (carries_extends from (extends_append old.cells _)) k in
           let z = is.settles t (length old.cells) (record { width = w; cell = Peek m at }) l (k.keeps (length old.cells) _ low (get_pushed old.cells _)) in
-          z ∙ ap (λ x. get_or (store_at run t m.0) x 0) (p.words all before run is t l);
+          z ∙ (unwrap_or-slice_get (store_at run t m.0) (word_at run t at.0) 0
+          ∙ ap (λ x. get_or (store_at run t m.0) x 0) (p.words all before run is t l));
     })
 
 pub own_net : {cells : List SizedCell} {n w : ℕ} → IsNet cells n w → IsNet cells n (net_width_of cells n)
@@ -99,7 +101,7 @@ peek_allowed cells w m at depth p q = record { depth = depth; memory = p; addres
 
 pub index_value : (ns : List NetTree) (c : ModuleClock) (n : List ℕ) (k w : ℕ) → is_memory_name ns n ≡ true
     → get_or (c.store n) k 0 ≡ value_at ns c w (index n (place k))
-index_value ns c n k w t = sym (cond-true _ _ _ t)
+index_value ns c n k w t = sym (unwrap_or-slice_get (c.store n) k 0) ∙ sym (cond-true _ _ _ t)
 
 pub bit_value : (ns : List NetTree) (c : ModuleClock) (n : List ℕ) (k w : ℕ) → is_memory_name ns n ≡ false
     → c.word n / 2 ^ k % 2 ≡ value_at ns c w (index n (place k))

@@ -4,6 +4,7 @@ use Rattle.std.proofs.lemmas.Bool.{cases_lt}
 use Rattle.std.proofs.lemmas.List.{get_or_append_left, get_or_at, length-map, length-take, take-take}
 use Rattle.std.proofs.lemmas.Option.{slice_get_within, slice_get-get_or, get_or_from_slice_get, slice_get-map}
 use Rattle.std.specs.Option.{option_map}
+use Rattle.std.specs.Prelude.{unwrap_or}
 use Rattle.ae_word.specs.AtomTree.{unsigned_word}
 use Rattle.ae_seq.specs.Typing.{grown}
 use Rattle.ae_eval.proofs.Items.{entry-grown, slice_get-take}
@@ -112,7 +113,7 @@ items_many s known vs fit =
     ∙ omega (arith, many_words s.ins vs fit, length-append s.ins (node_layouts s.nodes), length-map s.nodes (λ (x : StNodeTree). x.type))
 
 pub node_layout : (s : StFuncTree) (j : ℕ) (n : StNodeTree) → slice_get s.nodes j ≡ Some n → item_layout (item_layouts s) (length s.ins + j) ≡ n.type
-node_layout s j n at = get_or_from_slice_get (item_layouts s) (length s.ins + j) n.type (sseq 0 (st_atom (unsigned_word 1)))
+node_layout s j n at = ap (λ o. unwrap_or o (sseq 0 (st_atom (unsigned_word 1))))
     (get_right s.ins (node_layouts s.nodes) j ∙ (slice_get-map (λ (x : StNodeTree). x.type) s.nodes j ∙ ap (option_map (λ (x : StNodeTree). x.type)) at))
 
 early : (s : StFuncTree) (j : ℕ) → length (s.ins ++ node_layouts (take j s.nodes)) ≤ length s.ins + j

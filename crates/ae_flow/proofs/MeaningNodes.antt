@@ -3,7 +3,7 @@ use Rattle.std.proofs.Common.{◌≡◌, ℕ, zero, suc, ◌+◌, ◌*◌, ◌<�
 use Rattle.std.proofs.lemmas.Bool.{cases_lt}
 use Rattle.std.proofs.lemmas.Bool.Decides.{nat_tests}
 use Rattle.std.proofs.lemmas.List.{get_or_append_left, get_or_push}
-use Rattle.std.proofs.lemmas.Option.{none-some, same_Some}
+use Rattle.std.proofs.lemmas.Option.{none-some, same_Some, unwrap_or-slice_get}
 use Rattle.ae_seqtype.specs.SeqTree.{SeqTree, atom, seq, atoms, in_size, parts_in_size}
 use Rattle.ae_seqtype.specs.ValueTree.{ValueTree, end, elements, listed, value_of, Stands}
 use Rattle.ae_seq.specs.ProgramTree.{ProgramTree, NodeTree, OpTree, call, each, each_two, reduce, scan}
@@ -49,13 +49,15 @@ standing-push ts n wss vs ws v h one =
             let P : List ℕ → Type 0 = λ us. Stands t us (at (vs ++ v ∷ []) i) in
             let Q : ValueTree → Type 0 = λ y. Stands t (words_at wss i) y in
             subst P (sym (get_or_append_left wss (ws ∷ []) [] i (omega arith)))
-            (subst Q (sym (get_or_append_left vs (v ∷ []) end i (omega arith))) (h.each i t low e))
+            (subst Q (sym (unwrap_or-slice_get (vs ++ v ∷ []) i end ∙ (get_or_append_left vs (v ∷ []) end i (omega arith)
+            ∙ sym (unwrap_or-slice_get vs i end)))) (h.each i t low e))
         | inr high ↦
             let last : n ≡ i = omega arith in
             let P : List ℕ → Type 0 = λ us. Stands t us (at (vs ++ v ∷ []) i) in
             let Q : ValueTree → Type 0 = λ y. Stands t ws y in
             subst P (sym (get_or_push wss ws [] i (a ∙ last)))
-            (subst Q (sym (get_or_push vs v end i (b ∙ last))) (one t (subst (λ j. slice_get ts j ≡ Some t) (sym last) e)))
+            (subst Q (sym (unwrap_or-slice_get (vs ++ v ∷ []) i end ∙ get_or_push vs v end i (b ∙ last)))
+            (one t (subst (λ j. slice_get ts j ≡ Some t) (sym last) e)))
       ];
     }
 

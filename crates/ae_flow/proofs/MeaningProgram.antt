@@ -1,10 +1,11 @@
 -- Each instance makes of the words of values the words of what its function means, and so does the whole schedule.
-use Rattle.std.proofs.Common.{◌≡◌, ℕ, zero, suc, ◌+◌, ◌-◌, ◌<◌, ◌≤◌, List, [], ◌∷◌, ◌++◌, length, take, map, Some, IsTrue, slice_get, get_or, refl, arith, sym, ap, ◌∙◌, subst, inl, inr, length-take, take-take}
+use Rattle.std.proofs.Common.{◌≡◌, ℕ, zero, suc, ◌+◌, ◌-◌, ◌<◌, ◌≤◌, List, [], ◌∷◌, ◌++◌, length, take, map, Some, IsTrue, slice_get, get_or, refl, arith, sym, ap, ◌∙◌, subst, inl, inr, length-take, take-take, Option}
 use Rattle.std.specs.Option.{option_map}
 use Rattle.std.proofs.lemmas.Bool.{cases_lt}
 use Rattle.std.proofs.lemmas.Bool.Decides.{nat_tests}
 use Rattle.std.proofs.lemmas.List.{length-map, get_or_past}
-use Rattle.std.proofs.lemmas.Option.{none-some, same_Some, option_and_then_some, slice_get-map, slice_get_within, get_or_from_slice_get}
+use Rattle.std.proofs.lemmas.Option.{none-some, same_Some, option_and_then_some, slice_get-map, slice_get_within, get_or_from_slice_get, unwrap_or-slice_get}
+use Rattle.std.specs.Prelude.{unwrap_or}
 use Rattle.ae_seqtype.specs.SeqTree.{SeqTree, in_size, parts_in_size}
 use Rattle.ae_seqtype.specs.ValueTree.{ValueTree, end, flat, value_of, Fit, Stands}
 use Rattle.ae_seqtype.proofs.Stands.{length-Fit}
@@ -83,7 +84,7 @@ get-back [] ys j = let e : 0 + j ≡ j = omega arith in ap (slice_get ys) e
 get-back (x ∷ xs) ys j = let e : length (x ∷ xs) + j ≡ suc (length xs + j) = omega arith in ap (slice_get (x ∷ (xs ++ ys))) e ∙ get-back xs ys j
 
 layout-here : (layouts : List StTree) (i : ℕ) (x : StTree) → slice_get layouts i ≡ Some x → item_layout layouts i ≡ x
-layout-here layouts i x h = get_or_from_slice_get layouts i x (sseq 0 (st_atom (unsigned_word 1))) h
+layout-here layouts i x h = ap (λ o. unwrap_or o (sseq 0 (st_atom (unsigned_word 1)))) h
 
 module _ (p : ProgramTree) (keys : Keys) (s : StFuncTree) (typed : IsTyped p) (h : IsInstance p keys s) where
   abbrev types : List SeqTree
@@ -209,8 +210,8 @@ module _ (p : ProgramTree) (keys : Keys) (s : StFuncTree) (typed : IsTyped p) (h
         let args = values_of (params_in p s.func) wss in
         let st = items-stand known all wss fit in
         let one = st.each r.0 u (slice_get_within types r.0 u r.2) r.2 in
-        let function : get_or (meanings p.funcs) s.func no_function ≡ meaning means h.of = get_or_from_slice_get (meanings p.funcs) s.func
-        (meaning means h.of) no_function (meaning-of p s.func h.of h.known) in
+        let function : unwrap_or (slice_get (meanings p.funcs) s.func) no_function ≡ meaning means h.of =
+        ap (λ (o : Option Meaning). unwrap_or o no_function) (meaning-of p s.func h.of h.known) in
         let value : at (item_values means h.of args) r.0 ≡ applied (meanings p.funcs) s.func args = sym
         (ap (λ (m : Meaning). at (m args) 0) function ∙ at-first (at (item_values means h.of args)) h.of.results r.0 r.1) in
         let P : ℕ → Type 0 = λ k. Stands u (words_at (item_words known s wss) k) (applied (meanings p.funcs) s.func args) in
@@ -279,7 +280,7 @@ item-flat ts wss vs i st =
     let b = st.values in
     elim (cases_lt i (length ts)) [
       | inl low ↦ let t = entry-at ts i low in sym (flat-stands t.0 _ _ (st.each i t.0 low t.1))
-      | inr high ↦ get_or_past wss i [] (omega arith) ∙ sym (ap flat (get_or_past vs i end (omega arith)))
+      | inr high ↦ get_or_past wss i [] (omega arith) ∙ sym (ap flat (unwrap_or-slice_get vs i end ∙ get_or_past vs i end (omega arith)))
     ]
 
 items-flat : (ts : List SeqTree) (wss : List (List ℕ)) (vs : List ValueTree) (is : List ℕ) → Standing ts (length ts) wss vs
@@ -304,9 +305,9 @@ flows-mean p slowdown instances vs typed h values =
     let means = take f (meanings p.funcs) in
     let st = items-stand p keys s typed right known all (map flat vs) args.0 in
     let own = subst (λ xs. Standing (types_in p f) (length (types_in p f)) (item_words known s (map flat vs)) (item_values means right.of xs)) args.1 st in
-    let function : get_or (meanings p.funcs) f no_function ≡ meaning means right.of = get_or_from_slice_get (meanings p.funcs) f
-    (meaning means right.of) no_function (meaning-of p f right.of right.known) in
+    let function : unwrap_or (slice_get (meanings p.funcs) f) no_function ≡ meaning means right.of =
+    ap (λ (o : Option Meaning). unwrap_or o no_function) (meaning-of p f right.of right.known) in
     let meant : map (at (item_values means right.of vs)) right.of.results ≡ mean p vs = sym (ap (λ (m : Meaning). m vs) function) ∙
-    ap (λ j. get_or (meanings p.funcs) j no_function vs) last in
+    ap (λ j. unwrap_or (slice_get (meanings p.funcs) j) no_function vs) last in
     ap (λ o. results_in known o (map flat vs)) h.last.here ∙ ap (map (words_at (item_words known s (map flat vs)))) right.results
     ∙ items-flat (types_in p f) (item_words known s (map flat vs)) (item_values means right.of vs) right.of.results own ∙ ap (map flat) meant

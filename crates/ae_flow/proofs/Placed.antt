@@ -3,7 +3,8 @@ use Rattle.std.proofs.Common.{◌≡◌, ℕ, zero, suc, ◌+◌, ◌-◌, ◌<�
 use Rattle.std.specs.Option.{option_map}
 use Rattle.std.proofs.lemmas.Bool.{cases_lt}
 use Rattle.std.proofs.lemmas.List.{length-map}
-use Rattle.std.proofs.lemmas.Option.{slice_get-map, slice_get_within, slice_get-get_or, get_or_from_slice_get, none-some, same_Some}
+use Rattle.std.proofs.lemmas.Option.{slice_get-map, slice_get_within, slice_get-get_or, none-some, same_Some}
+use Rattle.std.specs.Prelude.{unwrap_or}
 use Rattle.ae_word.specs.AtomTree.{unsigned_word}
 use Rattle.ae_seqtype.specs.SeqTree.{SeqTree, in_size}
 use Rattle.ae_seq.specs.ProgramTree.{ProgramTree, NodeTree, ParamTree}
@@ -75,7 +76,7 @@ item_count_is p keys s h =
 
 layout_is : (p : ProgramTree) (f budget a : ℕ) (layouts : List StTree) (s : StTree) → layout_at p f budget a ≡ Some s → slice_get layouts a ≡ Some s
     → layout_at p f budget a ≡ Some (item_layout layouts a)
-layout_is p f budget a layouts s is at = is ∙ ap Some (sym (get_or_from_slice_get layouts a s (sseq 0 (st_atom (unsigned_word 1))) at))
+layout_is p f budget a layouts s is at = is ∙ ap Some (sym (ap (λ o. unwrap_or o (sseq 0 (st_atom (unsigned_word 1)))) at))
 
 pub item_laid : (p : ProgramTree) (keys : Keys) (s : StFuncTree) (h : IsInstance p keys s) (a : ℕ) → a < length (item_layouts s)
     → layout_at p s.func s.budget a ≡ Some (item_layout (item_layouts s) a)

@@ -1,10 +1,11 @@
 -- The words of a block, and their folds.
 use Rattle.std.proofs.Common.{ℕ, suc, ◌≡◌, ◌+◌, ◌-◌, ◌*◌, ◌/◌, ◌%◌, ◌^◌, ◌<◌, ◌≤◌, List, length, map, get_or, Some, slice_get, arith, refl, sym, ap, ◌∙◌}
 use Rattle.std.specs.List.{range_with_len}
+use Rattle.std.specs.Prelude.{Option, unwrap_or}
 use Rattle.std.proofs.Math.Nat.{suc-mul, add-mul, mul_assoc, mul-le-mul_right}
 use Rattle.std.proofs.lemmas.Nat.{mod-mul-add, div-mul-add, mul-add-lt, div-add-mod', div_below, mod_below}
 use Rattle.std.proofs.lemmas.List.FromFn.{get_or-map-range_with_len}
-use Rattle.std.proofs.lemmas.Option.{slice_get_within, slice_get-get_or, get_or_from_slice_get}
+use Rattle.std.proofs.lemmas.Option.{slice_get_within, slice_get-get_or, get_or_from_slice_get, unwrap_or-slice_get}
 use Rattle.ae_netlist.specs.declared.cell.NetId.{NetId}
 use Rattle.ae_netlist.specs.Runs.{Clock, word_at}
 use Rattle.ae_sttype.specs.declared.st_type.Slot.{Slot}
@@ -122,7 +123,8 @@ held_word t n m stride k run start bundle v es long h q l a j s lq ll found low 
     let word : (i * st_atoms t + a) * w + j ≡ i * (st_atoms t * w) + (a * w + j) = omega arith in
     let clock : start + (k + q * time t + s.clock) ≡ start + (k + (q * time t + s.clock)) = omega arith in
     let held = h (i * st_atoms t + a) j _ (atom_at t n m q l a s lq ll found) lj in
-    rw (clock, ← word) (sym (wave_word run start bundle (k + (q * time t + s.clock)) (l * stride + p) below) ∙ rw index held)
+    rw (clock, ← word) (sym (wave_word run start bundle (k + (q * time t + s.clock)) (l * stride + p) below)
+    ∙ rw index (held ∙ unwrap_or-slice_get v ((i * st_atoms t + a) * w + j) 0))
 
 -- what a net that scans has in the clock and at the place of an atom of the element in slot q and lane l
 pub scan_word : (t : StTree) (plan : Plan) (k d b : ℕ) (run : List Clock) (start y : ℕ) (fold : WordFold) (folds : List WordFold) (bundle : List NetId)
@@ -170,7 +172,7 @@ same_place folds stride n q some whole =
 pub slot_in : (t : StTree) (a : ℕ) (s : Slot) → IsInSize t → slice_get (slots t) a ≡ Some s → (s.clock < time t) × (s.lane < lanes t)
 slot_in t a s size found =
     let la : a < st_atoms t = omega (arith, slice_get_within (slots t) a s found, length-slots t) in
-    let same : slot_of t a ≡ s = get_or_from_slice_get (slots t) a s (slot_at 0 0) found in
+    let same : slot_of t a ≡ s = ap (λ (o : Option Slot). unwrap_or o (slot_at 0 0)) found in
     rw same at (slot_below t size.lengths a la)
 
 -- the words of a place and of an element that stand apart by whole atoms are folded alike
@@ -244,9 +246,10 @@ reduce_holds t plan k d b run start folds bundle outs v size es et some wide roo
     (omega arith) lw is fits in
     let made = scan_word t plan k d b run start (net_at outs p) (fold_at folds (from + p)) folds bundle v es et long_in words held (plan.slots - 1)
     (plan.lanes - 1) a j s (omega arith) (omega arith) found in_block.0 in_block.1 lj is fit here within in
+    let f : ℕ → ℕ = λ x. word_fold folds total v x ((plan.slots - 1) * plan.lanes + (plan.lanes - 1)) in
     wave_word run start outs (k + ((plan.slots - 1) * time t + d) + b * plan.period + s.clock) p (omega arith)
-    ∙ rw (clock, ← last) (made ∙ sym (get_or-map-range_with_len
-    (λ x. word_fold folds total v x ((plan.slots - 1) * plan.lanes + (plan.lanes - 1))) 0 total word word 0 lw (omega arith)))
+    ∙ rw (clock, ← last) (made ∙ sym (get_or-map-range_with_len f 0 total word word 0 lw (omega arith))
+    ∙ sym (unwrap_or-slice_get (map f (range_with_len 0 total)) word 0))
 
 pub scan_holds : (t : StTree) (plan : Plan) (k d b : ℕ) (run : List Clock) (start : ℕ) (folds : List WordFold) (bundle outs : List NetId) (v : List ℕ)
     → IsInSize t → plan.stride ≡ lanes t * element_words t → plan.inner ≡ time t
@@ -300,7 +303,8 @@ scan_holds t plan k d b run start folds bundle outs v size es et wide room long_
     let li : i < plan.slots * plan.lanes = omega (arith, mul-add-lt q plan.lanes l plan.slots one.lq one.ll) in
     let lx : i * total + word < plan.slots * plan.lanes * total = omega (arith, mul-add-lt i total word (plan.slots * plan.lanes) li lw) in
     let f : ℕ → ℕ = λ n. word_fold folds total v (n % total) (n / total) in
-    let got : get_or (map f (range_with_len 0 (plan.slots * plan.lanes * total))) (i * total + word) 0 ≡ word_fold folds total v word i =
+    let got : unwrap_or (slice_get (map f (range_with_len 0 (plan.slots * plan.lanes * total))) (i * total + word)) 0 ≡ word_fold folds total v word i =
+    unwrap_or-slice_get (map f (range_with_len 0 (plan.slots * plan.lanes * total))) (i * total + word) 0 ∙
     get_or-map-range_with_len f 0 (plan.slots * plan.lanes * total) (i * total + word) (i * total + word) 0 lx (omega arith) ∙ rw (rest, part) refl in
     let lane : (l * lanes t + s.lane) * w + j ≡ net = omega arith in
     rw (one.is, lane, x)

@@ -1,6 +1,6 @@
 -- Tables of clocks, one step at a time, and the arrivals of items by them.
 use Rattle.std.proofs.Common.{◌≡◌, ℕ, zero, suc, ◌+◌, ◌-◌, ◌*◌, ◌/◌, ◌%◌, ◌<◌, inl, inr, List, [], ◌∷◌, ◌++◌, length, take, map, get_or, Some, slice_get, refl, arith, sym, ap, ◌∙◌, append_assoc, max}
-use Rattle.std.specs.Prelude.{flat_map, fold}
+use Rattle.std.specs.Prelude.{flat_map, fold, unwrap_or}
 use Rattle.std.specs.List.{range_with_len}
 use Rattle.std.proofs.lemmas.Bool.{cases_lt}
 use Rattle.std.proofs.lemmas.Nat.{div_below}
@@ -9,7 +9,7 @@ use Rattle.std.proofs.lemmas.List.{append-nil, get_or-append_right, get_or-map, 
 use Rattle.std.proofs.lemmas.List.Concat.{flat_map-cons}
 use Rattle.std.proofs.lemmas.List.FromFn.{get_or-map-range_with_len, length-map-range_with_len, map-range_with_len_more}
 use Rattle.std.proofs.lemmas.List.Sums.{fold-append}
-use Rattle.std.proofs.lemmas.Option.{get_or_from_slice_get, slice_get_within}
+use Rattle.std.proofs.lemmas.Option.{get_or_from_slice_get, slice_get_within, unwrap_or-slice_get}
 use Rattle.ae_word.specs.AtomTree.{unsigned_word}
 use Rattle.ae_sttype.specs.declared.st_type.Slot.{Slot}
 use Rattle.ae_sttype.specs.declared.st_type.StType.{StType}
@@ -48,6 +48,7 @@ length-element_clocks s = length-map (slots s) (λ (w : Slot). w.clock) ∙ leng
 
 element-clock : (s : StTree) (e : ℕ) → e < st_atoms s → get_or (element_clocks s) e 0 ≡ (slot_number s e).clock
 element-clock s e low = get_or-map (λ (w : Slot). w.clock) (slots s) e (slot_at 0 0) 0 (omega (arith, low, length-slots s))
+    ∙ ap (λ (w : Slot). w.clock) (sym (unwrap_or-slice_get (slots s) e (slot_at 0 0)))
 
 pub clock-early : (s : StTree) → IsInSize s → (k c : ℕ) → slice_get (element_clocks s) k ≡ Some c → c < 4096
 clock-early s size k c found =
@@ -89,7 +90,7 @@ words-next ls k t old now found was is =
 -- ---- the clock of the word of a number
 
 source-is : (ins : List StTree) (i e j : ℕ) (s : StTree) → slice_get ins i ≡ Some s → source_clock (source_of ins (from_input i e j)) ≡ (slot_number s e).clock
-source-is ins i e j s found = ap (λ (t : StTree). (slot_number t e).clock) (get_or_from_slice_get ins i s (sseq 0 (atom (unsigned_word 1))) found)
+source-is ins i e j s found = ap (λ (t : StTree). (slot_number t e).clock) (ap (λ o. unwrap_or o (sseq 0 (atom (unsigned_word 1)))) found)
 
 spread-at : (w : ℕ) (ks : List ℕ) (n : ℕ) → n < length ks * w → get_or (spread w ks) n 0 ≡ get_or ks (n / w) 0
 spread-at w ks n low = get_or-map-range_with_len (λ o. get_or ks (o / w) 0) 0 (length ks * w) n n 0 low (omega arith)
@@ -140,8 +141,9 @@ lead-at ins out labels o low below =
     let c : ℕ = (slot_number out (o / w)).clock in
     let at : get_or (element_clocks out) (o / w) 0 ≡ c = element-clock out (o / w) (div_below o w (st_atoms out) (element_words_pos out) below) in
     (λ i. label-clock ins (get_or labels o 0) i - at i)
-    ∙ ap (λ x. source_clock (source_of ins x) - c) (sym (get_or-map (labelled_origin ins) labels o 0 (fixed 0) low))
-    ∙ sym (lead-is c (source_of ins (get_or (map (labelled_origin ins) labels) o (fixed 0))))
+    ∙ ap (λ x. source_clock (source_of ins x) - c) (sym (unwrap_or-slice_get (map (labelled_origin ins) labels) o (fixed 0)
+    ∙ get_or-map (labelled_origin ins) labels o 0 (fixed 0) low))
+    ∙ sym (lead-is c (source_of ins (unwrap_or (slice_get (map (labelled_origin ins) labels) o) (fixed 0))))
 
 greatest-same : (f : ℕ → ℕ) (g : TripTree → ℕ) (t : ℕ → TripTree) (a n most : ℕ) → ((o : ℕ) → o < a + n → f o ≡ g (t o))
     → fold (λ m x. max m (f x)) most (range_with_len a n) ≡ fold (λ m (x : TripTree). max m (g x)) most (map t (range_with_len a n))

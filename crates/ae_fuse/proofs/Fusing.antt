@@ -3,7 +3,7 @@ use Rattle.std.proofs.Common.{◌≡◌, Vec, Global, ℕ, suc, ◌+◌, ◌-◌
 use Rattle.std.specs.Prelude.{true}
 use Rattle.std.specs.List.{range_with_len}
 use Rattle.std.proofs.lemmas.List.{get_or_append_left, length-map}
-use Rattle.std.proofs.lemmas.Option.{get_or_from_slice_get, same_Some, slice_get_within}
+use Rattle.std.proofs.lemmas.Option.{get_or_from_slice_get, same_Some, slice_get_within, unwrap_or-slice_get}
 use Rattle.ae_word.specs.AtomTree.{unsigned_word}
 use Rattle.ae_sttype.specs.declared.st_type.StType.{StType}
 use Rattle.ae_sttype.specs.StTree.{StTree, atom, sseq, st_tree}
@@ -51,8 +51,8 @@ module _ (s : StFuncTree) (h : IsMovable s) where
   sized-at xs same k t found =
       let here : slice_get s.ins k ≡ Some (st_tree t) = ap (λ (ts : List StTree). slice_get ts k) (sym same) ∙ get_mapped st_tree xs k t found in
       let low : k < length s.ins = slice_get_within s.ins k (st_tree t) here in
-      let is : item_layout (item_layouts s) k ≡ st_tree t = get_or_append_left s.ins (node_layouts s.nodes) none k low ∙
-      get_or_from_slice_get s.ins k (st_tree t) none here in
+      let is : item_layout (item_layouts s) k ≡ st_tree t = unwrap_or-slice_get (item_layouts s) k none ∙
+      (get_or_append_left s.ins (node_layouts s.nodes) none k low ∙ get_or_from_slice_get s.ins k (st_tree t) none here) in
       subst IsInSize is (h.words.sizes k (omega (arith, low, length-append s.ins (node_layouts s.nodes))))
 
   pub few-at : (xs : List StType) → st_trees xs ≡ s.ins → length xs ≤ 8

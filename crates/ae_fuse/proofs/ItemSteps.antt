@@ -2,7 +2,7 @@
 use Rattle.std.proofs.Common.{◌≡◌, ℕ, zero, suc, ◌+◌, ◌<◌, true, List, [], ◌∷◌, length, Some, slice_get, refl, arith, sym, ap, ◌∙◌, subst, length-append}
 use Rattle.std.proofs.lemmas.Bool.{and_parts}
 use Rattle.std.proofs.lemmas.List.{get_or_append_left}
-use Rattle.std.proofs.lemmas.Option.{get_or_from_slice_get, none-some, same_Some, slice_get_within}
+use Rattle.std.proofs.lemmas.Option.{get_or_from_slice_get, none-some, same_Some, slice_get_within, unwrap_or-slice_get}
 use Rattle.ae_word.specs.AtomTree.{unsigned_word}
 use Rattle.ae_sttype.specs.declared.st_type.StType.{StType}
 use Rattle.ae_sttype.specs.StTree.{StTree, atom, sseq, st_tree}
@@ -29,8 +29,8 @@ input-sized f k t h found =
     let here : slice_get (st_trees f.ins.items) k ≡ Some (st_tree t) = get_mapped st_tree f.ins.items k t found in
     let low : k < length (st_trees f.ins.items) = slice_get_within (st_trees f.ins.items) k (st_tree t) here in
     let rest : List StTree = node_layouts (st_func_tree f).nodes in
-    let is : item_layout (item_layouts (st_func_tree f)) k ≡ st_tree t = get_or_append_left (st_trees f.ins.items) rest none k low ∙
-    get_or_from_slice_get (st_trees f.ins.items) k (st_tree t) none here in
+    let is : item_layout (item_layouts (st_func_tree f)) k ≡ st_tree t = unwrap_or-slice_get (item_layouts (st_func_tree f)) k none ∙
+    (get_or_append_left (st_trees f.ins.items) rest none k low ∙ get_or_from_slice_get (st_trees f.ins.items) k (st_tree t) none here) in
     subst IsInSize is (h.sizes k (omega (arith, low, length-append (st_trees f.ins.items) rest)))
 
 -- ---- nodes

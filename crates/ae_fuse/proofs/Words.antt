@@ -2,6 +2,7 @@
 use Rattle.std.proofs.Common.{◌≡◌, ℕ, zero, suc, ◌+◌, ◌*◌, ◌/◌, ◌%◌, List, [], ◌∷◌, map, None, Some, slice_get, get_or, refl, arith, sym, ap, ◌∙◌, subst, ⊎_elim}
 use Rattle.std.specs.Prelude.{flat_map, true}
 use Rattle.std.proofs.lemmas.Nat.{div-add-mod'}
+use Rattle.std.proofs.lemmas.Option.{get_or_from_slice_get}
 use Rattle.ae_word.specs.AtomTree.{atom_words}
 use Rattle.ae_seqtype.specs.SeqTree.{SeqTree, atom_of}
 use Rattle.ae_seqtype.specs.ValueTree.{ValueTree, flat}
@@ -17,7 +18,6 @@ use Rattle.ae_trace.proofs.Tracing.{means-by-trace}
 use Rattle.ae_trace.proofs.Origins.{HasNone, StandsAt, origin-cases, flat-renamed, at-map}
 use Rattle.ae_trace.proofs.Laying.{IsLaid}
 use Rattle.ae_trace.proofs.Typed.{AreLaid}
-use Rattle.ae_trace.proofs.Firsts.{index-there}
 
 pub index-flat : (vs : List ValueTree) (i : ℕ) → get_or (map flat vs) i [] ≡ flat (at vs i)
 index-flat [] i = refl
@@ -50,7 +50,7 @@ module _ (slowdown : ℕ) (ts : List SeqTree) (ins : List StTree) (laid : AreLai
       let whole : w.place / k * k + w.place % k ≡ w.place = div-add-mod' w.place k in
       ap (origin_word ins (map flat vs)) is
       ∙ ap (λ (x : StTree). get_or (get_or (map flat vs) w.value []) (w.place / k * element_words x + w.place % k) 0)
-      (index-there ins w.value l.layout _ l.found)
+      (get_or_from_slice_get ins w.value l.layout _ l.found)
       ∙ ap (λ ws. get_or ws (w.place / k * k + w.place % k) 0) (index-flat vs w.value)
       ∙ ap (λ i. get_or (flat (at vs w.value)) i 0) whole
       ∙ sym (w.word vs values)

@@ -4,7 +4,8 @@ use Rattle.std.proofs.Math.Nat.{add-mul}
 use Rattle.std.proofs.lemmas.List.{length-map}
 use Rattle.std.proofs.lemmas.List.Sums.{sum_by-cons}
 use Rattle.std.proofs.lemmas.Nat.{div-add-mod', div-mul-add, div_below, mod-mul-add, mod_below}
-use Rattle.std.proofs.lemmas.Option.{slice_get_within, slice_get-get_or, get_or_from_slice_get}
+use Rattle.std.proofs.lemmas.Option.{slice_get_within, slice_get-get_or, get_or_from_slice_get, unwrap_or-slice_get}
+use Rattle.std.specs.Prelude.{unwrap_or}
 use Rattle.ae_word.specs.AtomTree.{WordKind, atom_kinds, unsigned_word}
 use Rattle.ae_word.proofs.Ranges.{width_there}
 use Rattle.ae_word.proofs.Sizes.{length-atom_kinds}
@@ -177,7 +178,7 @@ origin_fits : (cells : List SizedCell) (ins : List StTree) (bundles : List (List
     → AreBundles cells (map stream_of ins) bundles → AreJoined bundles flat firsts
     → ((i : ℕ) (s : StTree) → slice_get ins i ≡ Some s → IsInSize s) → HasOrigin ins width o → FitsTree cells flat width (source_of ins o)
 origin_fits cells ins bundles flat firsts width (from_input i e j) h joined sizes o =
-    let is : get_or ins i (sseq 0 (atom (unsigned_word 1))) ≡ o.0 = get_or_from_slice_get ins i o.0 (sseq 0 (atom (unsigned_word 1))) o.1 in
+    let is : unwrap_or (slice_get ins i) (sseq 0 (atom (unsigned_word 1))) ≡ o.0 = ap (λ o. unwrap_or o (sseq 0 (atom (unsigned_word 1)))) o.1 in
     let n = net_at cells ins bundles flat firsts i e j width o.0 h joined (sizes i o.0 o.1) o.1 o.2 o.3 in
     rw is (rw n.same n.is_net)
 origin_fits cells ins bundles flat firsts width (fixed w) h joined sizes o = o
@@ -197,7 +198,7 @@ fitting cells m bundles flat firsts widths trips h made joined e wide = record {
       let a : width_at m.out (n % k) ≡ Some w = rw rest at (wide t.column w g) in
       let b : width_at m.out (n % k) ≡ Some o.0 = o.1 in
       let same : o.0 ≡ w = cc in
-      let fit = origin_fits cells m.ins bundles flat firsts o.0 (get_or m.origins n (fixed 0)) made joined (sizes_of m h) o.2 in
+      let fit = origin_fits cells m.ins bundles flat firsts o.0 (unwrap_or (slice_get m.origins n) (fixed 0)) made joined (sizes_of m h) o.2 in
       fits_by cells flat w t.source _ (ap (λ (v : TripTree). v.source) x.1) (rw same at fit);
 }
 
@@ -239,16 +240,17 @@ sourced_is : (cells : List SizedCell) (run : List Clock) (start a : ℕ) (ins : 
     → AllHold a (map stream_of ins) (map (wave_of run start) bundles) vs → sourced_tree run start a joined_nets (source_of ins o) ≡ origin_word ins vs o
 sourced_is cells run start a ins bundles joined_nets firsts vs width (from_input i e j) h joined sizes o given =
     let s : StTree = o.0 in
-    let is : get_or ins i (sseq 0 (atom (unsigned_word 1))) ≡ s = get_or_from_slice_get ins i s (sseq 0 (atom (unsigned_word 1))) o.1 in
+    let is : unwrap_or (slice_get ins i) (sseq 0 (atom (unsigned_word 1))) ≡ s = ap (λ o. unwrap_or o (sseq 0 (atom (unsigned_word 1)))) o.1 in
     let n = net_at cells ins bundles joined_nets firsts i e j width s h joined (sizes i s o.1) o.1 o.2 o.3 in
     let slot : Slot = slot_of s e in
-    let there : slice_get (slots s) e ≡ Some slot = slice_get-get_or (slots s) e (record { clock = 0; lane = 0 })
-    (let l : e < st_atoms s = o.2 in omega (arith, length-slots s)) in
+    let there : slice_get (slots s) e ≡ Some slot = rw (unwrap_or-slice_get (slots s) e (record { clock = 0; lane = 0 }))
+    (slice_get-get_or (slots s) e (record { clock = 0; lane = 0 }) (let l : e < st_atoms s = o.2 in omega (arith, length-slots s))) in
     let held = hold_at a ins (map (wave_of run start) bundles) vs given i s (wave_of run start n.nets) o.1
     (get_mapped (wave_of run start) bundles i n.nets n.there) e j slot there (word_below s j width o.3) in
     let at : wave_of run start n.nets (a + slot.clock) (column_number s e j) ≡ word_at run (start + (a + slot.clock)) n.net.0 = wave_word run start
     (a + slot.clock) (column_number s e j) n.nets n.net n.found in
-    rw is (ap (word_at run (start + (a + slot.clock))) n.same ∙ (sym at ∙ held))
+    rw (is, get_or_from_slice_get ins i s (sseq 0 (atom (unsigned_word 1))) o.1) (ap (word_at run (start + (a + slot.clock))) n.same ∙
+    (sym at ∙ (held ∙ unwrap_or-slice_get (get_or vs i []) (e * element_words s + j) 0)))
 sourced_is cells run start a ins bundles joined_nets firsts vs width (fixed w) h joined sizes o given = refl
 
 pub gather_law : (old cells : List SizedCell) (rst arrival : ℕ) (m : Move) (bundles : List (List NetId)) (joined_nets : List NetId) (firsts : List ℕ)
@@ -282,10 +284,11 @@ gather_law old cells rst arrival m bundles joined_nets firsts trips out h made j
       let bound : start + (arrival + d + b * p + t.0.clock) < length run = rw clock (omega (arith, whole)) in
       let word = makes all x run r start reset b n t.0 net t.1 fc bound in
       let o = origin_at m n h inside in
-      let origin : OriginTree = get_or m.origins n (fixed 0) in
-      let fn : slice_get m.origins n ≡ Some origin = slice_get-get_or m.origins n (fixed 0) (omega (arith, h.count)) in
-      let value : get_or (map (origin_word m.ins vs) m.origins) n 0 ≡ origin_word m.ins vs origin = get_or_from_slice_get
-      (map (origin_word m.ins vs) m.origins) n (origin_word m.ins vs origin) 0 (get_mapped (origin_word m.ins vs) m.origins n origin fn) in
+      let origin : OriginTree = unwrap_or (slice_get m.origins n) (fixed 0) in
+      let fn : slice_get m.origins n ≡ Some origin = rw (unwrap_or-slice_get m.origins n (fixed 0))
+      (slice_get-get_or m.origins n (fixed 0) (omega (arith, h.count))) in
+      let value : unwrap_or (slice_get (map (origin_word m.ins vs) m.origins) n) 0 ≡ origin_word m.ins vs origin =
+      ap (λ o. unwrap_or o 0) (get_mapped (origin_word m.ins vs) m.origins n origin fn) in
       wave_word run start (arrival + d + b * p + slot.clock) (slot.lane * w + j) out net fo
       ∙ (rw clock at word
       ∙ (sourced_by run start (arrival + b * p) joined_nets t.0.source _ (ap (λ (v : TripTree). v.source) y.1)

@@ -1,11 +1,13 @@
 -- The trips of a move between layouts in size.
-use Rattle.std.proofs.Common.{ℕ, ◌≡◌, ◌+◌, ◌*◌, ◌/◌, ◌%◌, ◌<◌, ◌≤◌, inl, inr, List, length, map, sum_by, get_or, arith, refl, sym, ap, ◌∙◌, subst}
+use Rattle.std.proofs.Common.{ℕ, ◌≡◌, ◌+◌, ◌*◌, ◌/◌, ◌%◌, ◌<◌, ◌≤◌, inl, inr, List, length, map, sum_by, arith, refl, sym, ap, ◌∙◌, subst, slice_get}
 use Rattle.std.proofs.Math.Nat.{mul-le-mul_right}
 use Rattle.std.proofs.lemmas.Bool.{cases_lt}
 use Rattle.std.proofs.lemmas.Nat.{div-add-mod', div-mul-add, div_below, mod-mul-add, mod_below}
+use Rattle.std.specs.Prelude.{unwrap_or}
+use Rattle.std.proofs.lemmas.Option.{unwrap_or-slice_get}
 use Rattle.ae_sttype.specs.declared.st_type.Slot.{Slot}
 use Rattle.ae_sttype.specs.StTree.{StTree, atom, tseq, sseq, time, lanes, st_atoms, element_words}
-use Rattle.ae_sttype.specs.Slots.{slots}
+use Rattle.ae_sttype.specs.Slots.{moved, slots}
 use Rattle.ae_sttype.specs.Size.{HasLengths, IsInSize}
 use Rattle.ae_sttype.specs.Moves.{SourceTree, TripTree, fixed, columns_of, lead_from}
 use Rattle.ae_sttype.proofs.Bounds.{lanes_pos}
@@ -71,7 +73,9 @@ on_lane (atom a) h l small = record { element = 0; below = omega arith; is = ome
 on_lane (tseq n i t) h l small =
     let r = on_lane t h.1 l small in
     let size : length (slots t) ≡ st_atoms t = length-slots t in
-    let slot = get_or-copies n (time t) 0 (slots t) 0 r.element (slot_at 0 0) h.0 (omega (arith, r.below)) in
+    let slot = unwrap_or-slice_get (slots (tseq n i t)) (0 * length (slots t) + r.element) (slot_at 0 0)
+    ∙ (get_or-copies n (time t) 0 (slots t) 0 r.element (slot_at 0 0) h.0 (omega (arith, r.below))
+    ∙ ap (moved (0 * time t) (0 * 0)) (sym (unwrap_or-slice_get (slots t) r.element (slot_at 0 0)))) in
     let z : 0 * length (slots t) + r.element ≡ r.element = omega arith in
     let below : r.element < n * st_atoms t = omega (arith, in_row 0 r.element n (st_atoms t) h.0 r.below) in
     record {
@@ -85,7 +89,9 @@ on_lane (sseq n t) h l small =
     let q : l / lanes t < n = div_below l (lanes t) n pos small in
     let r = on_lane t h.1 (l % lanes t) (mod_below l (lanes t) pos) in
     let size : length (slots t) ≡ st_atoms t = length-slots t in
-    let slot = get_or-copies n 0 (lanes t) (slots t) (l / lanes t) r.element (slot_at 0 0) q (omega (arith, r.below)) in
+    let slot = unwrap_or-slice_get (slots (sseq n t)) (l / lanes t * length (slots t) + r.element) (slot_at 0 0)
+    ∙ (get_or-copies n 0 (lanes t) (slots t) (l / lanes t) r.element (slot_at 0 0) q (omega (arith, r.below))
+    ∙ ap (moved (l / lanes t * 0) (l / lanes t * lanes t)) (sym (unwrap_or-slice_get (slots t) r.element (slot_at 0 0)))) in
     let at : l / lanes t * length (slots t) + r.element ≡ l / lanes t * st_atoms t + r.element = ap (λ x. l / lanes t * x + r.element) size in
     record {
       element = l / lanes t * st_atoms t + r.element;
@@ -139,7 +145,8 @@ within m trips h e = record {
   source = λ n t f.
       let x = trip_at m.ins m.out m.origins trips e n t f in
       let o = origin_at m n h x.0 in
-      in_by (sum_by columns_of m.ins) t.source _ (ap (λ (v : TripTree). v.source) x.1) (origin_in m.ins o.0 (get_or m.origins n (fixed 0)) (sizes_of m h) o.2);
+      in_by (sum_by columns_of m.ins) t.source _ (ap (λ (v : TripTree). v.source) x.1)
+      (origin_in m.ins o.0 (unwrap_or (slice_get m.origins n) (fixed 0)) (sizes_of m h) o.2);
 }
 
 -- ---- the latency is within the period

@@ -1,6 +1,7 @@
 -- The results of a typed program on values are values of the types of its results.
-use Rattle.std.proofs.Common.{◌≡◌, ℕ, ◌-◌, List, [], ◌∷◌, length, take, map, Option, None, Some, slice_get, get_or, refl, sym, ap, ◌∙◌, subst}
-use Rattle.std.proofs.lemmas.Option.{slice_get_within, get_or_from_slice_get}
+use Rattle.std.proofs.Common.{◌≡◌, ℕ, ◌-◌, List, [], ◌∷◌, length, take, map, Option, None, Some, slice_get, refl, sym, ap, ◌∙◌, subst}
+use Rattle.std.specs.Prelude.{unwrap_or}
+use Rattle.std.proofs.lemmas.Option.{slice_get_within}
 use Rattle.ae_seqtype.specs.SeqTree.{SeqTree}
 use Rattle.ae_seqtype.specs.ValueTree.{ValueTree, flat, Stands}
 use Rattle.ae_seq.specs.ProgramTree.{ProgramTree, FuncTree}
@@ -70,10 +71,10 @@ answers p slowdown instances ts typed h types vs values =
     let all = known-compute p slowdown instances typed h k (all-before p slowdown instances typed h k) in
     let means = take f (meanings p.funcs) in
     let st = items-stand p keys s typed right (callees (take k instances)) all (map flat vs) args.0 in
-    let function : get_or (meanings p.funcs) f no_function ≡ meaning means right.of = get_or_from_slice_get (meanings p.funcs) f
-    (meaning means right.of) no_function (meaning-of p f right.of right.known) in
+    let function : unwrap_or (slice_get (meanings p.funcs) f) no_function ≡ meaning means right.of = ap (λ (o : Option Meaning). unwrap_or o no_function)
+    (meaning-of p f right.of right.known) in
     let meant : map (at (item_values means right.of vs)) right.of.results ≡ mean p vs = sym (ap (λ (m : Meaning). m vs) function) ∙
-    ap (λ j. get_or (meanings p.funcs) j no_function vs) last in
+    ap (λ j. unwrap_or (slice_get (meanings p.funcs) j) no_function vs) last in
     let results : result_types p ≡ map (type_at p f) right.of.results =
     ap (λ j. map (type_at p j) (results_in (slice_get p.funcs j))) (sym last) ∙ ap (λ o. map (type_at p f) (results_in o)) right.known in
     let each : (i : ℕ) (t : SeqTree) → type_at p f i ≡ Some t → (ws : List ℕ) × Stands t ws (at (item_values means right.of vs) i) = λ i t e.

@@ -1,9 +1,10 @@
 -- From the lines of a netlist's run to those of the module with the same runs.
-use Rattle.std.proofs.Common.{ℕ, zero, suc, ◌≡◌, ◌+◌, ◌*◌, ◌<◌, ◌≤◌, Bool, not, ◌&&◌, List, [], ◌++◌, length, get_or, Option, Some, None, Err, All, arith, refl, ap, sym, ◌∙◌, subst}
+use Rattle.std.proofs.Common.{ℕ, zero, suc, ◌≡◌, ◌+◌, ◌*◌, ◌<◌, ◌≤◌, Bool, not, ◌&&◌, List, [], ◌++◌, length, Option, Some, None, Err, All, arith, refl, ap, sym, ◌∙◌, subst}
 use Rattle.std.specs.List.{count_by}
 use Rattle.std.proofs.lemmas.List.{length-map, get_or-map}
 use Rattle.std.proofs.lemmas.List.Elements.{All-get_or}
 use Rattle.std.proofs.lemmas.List.Sums.{length-filter, count_by-le-length}
+use Rattle.std.proofs.lemmas.Option.{unwrap_or-slice_get}
 use Rattle.ae_fields.specs.Rows.{bad_row}
 use Rattle.ae_netlist.specs.declared.cell.Outlet.{Outlet}
 use Rattle.ae_netlist.specs.Circuit.{Circuit, width_of}
@@ -82,7 +83,7 @@ sim_text m n fill table text same fit h =
             alike.inputs t below
             ∙ net_inputs n rs (filled n.cells fill) h.run t h.runs within (All-get_or (AreInputs n.cells) rs t [] within fit)
             ∙ get_or-map g table t [] [] inside
-            ∙ ap (λ k. taken_words k (get_or table t [])) (sym count));
+            ∙ (λ i. taken_words (sym count i) (sym (unwrap_or-slice_get table t []) i)));
         begins = λ below. begins m n run h.run fill same alike h.runs.begins below;
       };
       lines = h.lines ∙ same_lines (λ c. shown_words n.outlets h.run c) (λ c. output_words m (clock_at run c)) (length table)

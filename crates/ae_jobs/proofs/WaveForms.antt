@@ -1,12 +1,12 @@
 -- The wave of a module's run is one that can be written.
 use Rattle.std.proofs.Common.{ℕ, zero, suc, ◌≡◌, ◌+◌, ◌*◌, ◌^◌, ◌<◌, ◌≤◌, ◌==◌, ◌&&◌, inl, inr, Bool, true, false, if◌then◌else◌, List, [], ◌∷◌, ◌++◌, length, length-append, map, flat_map, get_or, Some, slice_get, bytes_eq, codes, arith, refl, ap, sym, ◌∙◌, subst}
-use Rattle.std.specs.Prelude.{All, IsTrue, not}
+use Rattle.std.specs.Prelude.{All, IsTrue, not, unwrap_or}
 use Rattle.std.specs.List.{list_all, range_with_len}
 use Rattle.std.specs.Fmt.{decimal}
 use Rattle.std.proofs.lemmas.List.{length-map, map-append}
 use Rattle.std.proofs.lemmas.List.Concat.{flat_map-cons}
 use Rattle.std.proofs.lemmas.List.Folds.{list_all-append}
-use Rattle.std.proofs.lemmas.Option.{get_or_from_slice_get}
+use Rattle.std.proofs.lemmas.Option.{get_or_from_slice_get, unwrap_or-slice_get}
 use Rattle.ae_eval.proofs.Items.{entry-at}
 use Rattle.ae_netlist.specs.declared.cell.Handshake.{Handshake}
 use Rattle.ae_netlist.specs.declared.cell.Handshake.TheVariants.{SourceValid, SourceReady, SinkValid, SinkReady}
@@ -230,11 +230,12 @@ module _ (lines : ℕ → ℕ) (n : Circuit) (outs : ℕ) (ok : IsWritableNetlis
             let x = entry-at vs k there in
             let z : 0 + i ≡ i = omega arith in
             let word : wave_word (run_wave own count words) i k ≡ (clock_at run (1 + i)).word x.0.name =
+            unwrap_or-slice_get words (i * length (map (λ (x : NetTree). x.name) vs) + k) 0 ∙
             (λ j. get_or (is j) (i * many j + k) 0) ∙ joined_word row (length vs) 0 count i k (λ c h. row_long c) inside there ∙
             ap (λ c. get_or (row c) k 0) z ∙ ap (λ ws. get_or ws k 0) (row_is i)
             ∙ get_or_from_slice_get (map (λ (y : NetTree). (clock_at run (1 + i)).word y.name) vs) k ((clock_at run (1 + i)).word x.0.name) 0
             (mapped_at (λ (y : NetTree). (clock_at run (1 + i)).word y.name) vs k x.0 x.1) in
-            let width : get_or (map (λ (y : NetTree). y.width) vs) k 0 ≡ x.0.width = get_or_from_slice_get (map (λ (y : NetTree). y.width) vs) k x.0.width 0
+            let width : unwrap_or (slice_get (map (λ (y : NetTree). y.width) vs) k) 0 ≡ x.0.width = ap (λ o. unwrap_or o 0)
             (mapped_at (λ (y : NetTree). y.width) vs k x.0 x.1) in
             let fits = word_fits (1 + i) x.0 (omega (arith, inside, long)) (among_from x.0 vs k x.1) in
             subst (λ b. wave_word (run_wave own count words) i k < 2 ^ b) (sym width) (subst (λ a. a < 2 ^ x.0.width) (sym word) fits));
@@ -242,7 +243,7 @@ module _ (lines : ℕ → ℕ) (n : Circuit) (outs : ℕ) (ok : IsWritableNetlis
             (let inside : i + 1 < count = omega (arith, h, times) in
             let a = range_at 0 count i 0 (omega (arith, inside)) in
             let b = range_at 0 count (i + 1) 0 inside in
-            omega (arith, a, b));
+            rw (unwrap_or-slice_get (range_with_len 0 count) i 0, unwrap_or-slice_get (range_with_len 0 count) (i + 1) 0) (omega (arith, a, b)));
         late = late_at;
         small = omega (
           arith,

@@ -1,5 +1,5 @@
 -- The text of `plan`: what a program costs, and when and how each item of the program function arrives.
-use Rattle.std.specs.Prelude.{ℕ, ◌+◌, List, [], ◌∷◌, ◌++◌, length, flat_map, get_or, codes}
+use Rattle.std.specs.Prelude.{ℕ, ◌+◌, List, [], ◌∷◌, ◌++◌, length, flat_map, slice_get, unwrap_or, codes}
 use Rattle.std.specs.Fmt.{decimal}
 use Rattle.ae_seq.specs.ProgramTree.{ParamTree, NodeTree, FuncTree, ProgramTree}
 use Rattle.ae_sttype.specs.StTree.{StTree}
@@ -22,15 +22,18 @@ item_line l n a s = ((((((decimal l ++ 32 ∷ []) ++ n) ++ 32 ∷ []) ++ decimal
 abbrev pub param_item_lines : (line : ℕ) (arrivals : List ℕ) (layouts : List StTree) (i : ℕ) → List ParamTree → List ℕ
 param_item_lines line as_all layouts i [] = []
 param_item_lines line as_all layouts i (q ∷ qs) =
-    item_line line q.name (get_or as_all i 0) (item_layout layouts i) ++ param_item_lines line as_all layouts (i + 1) qs
+    item_line line q.name (unwrap_or (slice_get as_all i) 0) (item_layout layouts i)
+    ++ param_item_lines line as_all layouts (i + 1) qs
 
 abbrev pub node_item_lines : (arrivals : List ℕ) (layouts : List StTree) (i : ℕ) → List NodeTree → List ℕ
 node_item_lines as_all layouts i [] = []
 node_item_lines as_all layouts i (n ∷ ns) =
-    item_line n.line n.name (get_or as_all i 0) (item_layout layouts i) ++ node_item_lines as_all layouts (i + 1) ns
+    item_line n.line n.name (unwrap_or (slice_get as_all i) 0) (item_layout layouts i)
+    ++ node_item_lines as_all layouts (i + 1) ns
 
 abbrev pub result_line : (line : ℕ) (arrivals : List ℕ) (layouts : List StTree) (item : ℕ) → List ℕ
-result_line line as_all layouts r = item_line line (codes "end") (get_or as_all r 0) (item_layout layouts r)
+result_line line as_all layouts r =
+    item_line line (codes "end") (unwrap_or (slice_get as_all r) 0) (item_layout layouts r)
 
 abbrev pub cost_lines : (slowdown : ℕ) → OwnCosts → List ℕ
 cost_lines slowdown c =

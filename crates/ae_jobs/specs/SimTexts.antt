@@ -1,5 +1,5 @@
 -- What `sim` answers and writes: the clock lines of the module that a Verilog text spells, on rows of words.
-use Rattle.std.specs.Prelude.{◌≡◌, ℕ, zero, suc, ◌+◌, ◌*◌, ◌<◌, ◌≤◌, List, [], ◌∷◌, ◌++◌, length, map, take, get_or, Option, Some, None}
+use Rattle.std.specs.Prelude.{◌≡◌, ℕ, zero, suc, ◌+◌, ◌*◌, ◌<◌, ◌≤◌, List, [], ◌∷◌, ◌++◌, length, map, take, slice_get, unwrap_or, Option, Some, None}
 use Rattle.std.specs.Fmt.{decimal}
 use Rattle.ae_fields.specs.Rows.{bad_row, row_words}
 use Rattle.ae_vmodule.specs.ModuleTree.{NetTree, ModuleTree}
@@ -81,7 +81,7 @@ pub record IsSimRun (m : ModuleTree) (fill : ℕ) (table : List (List (List ℕ)
   pub long : length run ≡ length table
   pub runs : IsModuleRun m run
   pub takes : (t : ℕ) → t < length run → input_words m (clock_at run t) ≡ taken_words (length (inputs_of m))
-      (get_or table t [])
+      (unwrap_or (slice_get table t) [])
   pub begins : 0 < length run → held_words m (clock_at run 0) ≡ map
       (λ (x : NetTree). first_words fill x.width (kind_depth x.kind)) (states_of m)
 

@@ -1,5 +1,5 @@
 -- What `unwave` answers and writes: the words of the wave that a value change dump holds.
-use Rattle.std.specs.Prelude.{◌≡◌, ℕ, zero, suc, ◌<◌, ◌≤◌, List, [], ◌++◌, length, map, get_or}
+use Rattle.std.specs.Prelude.{◌≡◌, ℕ, zero, suc, ◌<◌, ◌≤◌, List, [], ◌++◌, length, map, slice_get, unwrap_or}
 use Rattle.std.specs.List.{range_with_len}
 use Rattle.ae_vcd.specs.Waves.{WaveTree, wave_word}
 use Rattle.ae_vcd.specs.TextWords.{text_words}
@@ -18,7 +18,7 @@ words_at w i = map (wave_word w i) (range_with_len 0 (length w.names))
 -- the lines of the first times: each time, and its words
 abbrev pub wave_lines : WaveTree → (count : ℕ) → List ℕ
 wave_lines w zero = []
-wave_lines w (suc i) = wave_lines w i ++ words_of_clock (get_or w.times i 0) (words_at w i)
+wave_lines w (suc i) = wave_lines w i ++ words_of_clock (unwrap_or (slice_get w.times i) 0) (words_at w i)
 
 -- the text is a dump of this wave and of no other
 pub record IsDumpOf (part : List ℕ) (w : WaveTree) : Type 0 where

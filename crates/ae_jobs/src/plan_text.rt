@@ -1,6 +1,6 @@
 // The text of the job `plan`.
 
-ghost use Rattle.std.specs.Prelude.{◌≡◌, ◌++◌, ◌+◌, ◌<◌, ◌≤◌, ℕ, length, map, flat_map, IfOk, OnOk, string_bytes, slice_get, Some};
+ghost use Rattle.std.specs.Prelude.{◌≡◌, ◌++◌, ◌+◌, ◌<◌, ◌≤◌, ℕ, length, map, flat_map, IfOk, OnOk, string_bytes, slice_get, unwrap_or, Some};
 ghost use Rattle.ae_seq.specs.ProgramTree.{param_tree, node_tree, func_tree};
 ghost use Rattle.ae_sttype.specs.StTree.{st_tree};
 ghost use Rattle.ae_rewrite.specs.StProgramTree.{st_func_tree};
@@ -48,6 +48,14 @@ fn write_item(
     Ok(())
 }
 
+// When an item arrives.
+fn arrival(arrivals: &[u32], item: usize) -> u32
+    requires { item < length arrivals.now }
+    ensures { result ≡ unwrap_or (slice_get arrivals.now item) 0 }
+{
+    arrivals[item]
+}
+
 // The lines of the parameters.
 fn write_params(
     out: &mut String,
@@ -67,7 +75,7 @@ fn write_params(
             out,
             line,
             param.name.as_str(),
-            arrivals[item as usize],
+            arrival(arrivals, item as usize),
             layout(instance, item as usize),
         )?;
         item += 1;
@@ -94,7 +102,7 @@ fn write_nodes(
             out,
             node.line,
             node.name.as_str(),
-            arrivals[item as usize],
+            arrival(arrivals, item as usize),
             layout(instance, item as usize),
         )?;
         item += 1;
@@ -119,7 +127,7 @@ fn write_results(
             out,
             line,
             "end",
-            arrivals[*item as usize],
+            arrival(arrivals, *item as usize),
             layout(instance, *item as usize),
         )?;
     }

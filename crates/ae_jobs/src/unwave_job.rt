@@ -1,6 +1,6 @@
 // The job `unwave`.
 
-ghost use Rattle.std.specs.Prelude.{◌≡◌, ◌<◌, ◌^◌, ◌++◌, IfOk, OnOk, length, string_bytes, get_or};
+ghost use Rattle.std.specs.Prelude.{◌≡◌, ◌<◌, ◌^◌, ◌++◌, IfOk, OnOk, length, string_bytes, slice_get, unwrap_or};
 ghost use Rattle.ae_vcd.specs.Waves.{IsFormedWave, wave_tree};
 ghost use Rattle.ae_play.specs.Lines.{spaced};
 ghost use Rattle.ae_jobs.specs.SimTexts.{words_of_clock};
@@ -26,13 +26,21 @@ fn write_row(out: &mut String, w: &Wave, i: usize) -> Result<(), AllocError>
     Ok(())
 }
 
+// The number of a time.
+fn time(w: &Wave, i: usize) -> u64
+    requires { i < length w.now.times.items }
+    ensures { result ≡ unwrap_or (slice_get w.now.times.items i) 0 }
+{
+    w.times[i]
+}
+
 // The line of a time.
 fn write_time(out: &mut String, w: &Wave, i: usize) -> Result<(), AllocError>
     requires formed { IsFormedWave (wave_tree w.now) }
     requires time { i < length w.now.times.items }
-    ensures { OnOk result (string_bytes out.new ≡ string_bytes out.old ++ words_of_clock (get_or w.now.times.items i 0) (words_at (wave_tree w.now) i)) }
+    ensures { OnOk result (string_bytes out.new ≡ string_bytes out.old ++ words_of_clock (unwrap_or (slice_get w.now.times.items i) 0) (words_at (wave_tree w.now) i)) }
 {
-    out.push_str(Buffer::new().format(w.times[i]))?;
+    out.push_str(Buffer::new().format(time(w, i)))?;
     write_row(out, w, i)?;
     out.push_str("\n")?;
     Ok(())

@@ -1,6 +1,7 @@
 -- The rows of all clocks of a value: each element's words in its slot, and the fill elsewhere.
 use Rattle.std.proofs.Common.{ℕ, ◌≡◌, ◌+◌, ◌*◌, ◌<◌, List, ◌++◌, length, Some, get_or, arith, refl, ap, ◌∙◌}
 use Rattle.std.proofs.lemmas.Nat.{mul-add-lt}
+use Rattle.std.proofs.lemmas.Option.{unwrap_or-slice_get}
 use Rattle.ae_sttype.specs.StTree.{StTree, time, lanes, element_words}
 use Rattle.ae_sttype.specs.Slots.{slots}
 use Rattle.ae_sttype.specs.Size.{HasLengths}
@@ -30,9 +31,10 @@ holds_laid fill s value n words lengths rows all e j w at h =
     let clock_in : w.clock < time s = rw there.is at within.0 in
     let lane_in : w.lane < lanes s = rw there.is at within.1 in
     let z : 0 + w.clock ≡ w.clock = omega arith in
-    ap (λ c. get_or words (c * (lanes s * element_words s) + (w.lane * element_words s + j)) 0) z
+    rw (unwrap_or-slice_get value (e * element_words s + j) 0)
+    (ap (λ c. get_or words (c * (lanes s * element_words s) + (w.lane * element_words s + j)) 0) z
     ∙ rows.each w.clock (w.lane * element_words s + j) (omega (arith, clock_in, all)) (omega (arith, mul-add-lt w.lane (element_words s) j (lanes s) lane_in h))
-    ∙ stood fill s value (Some w.clock) w.lane j e lane_in h (element_found s w.clock w.lane e lengths at)
+    ∙ stood fill s value (Some w.clock) w.lane j e lane_in h (element_found s w.clock w.lane e lengths at))
 
 filled_laid : (fill : ℕ) (s : StTree) (value : List ℕ) (n : ℕ) (words : List ℕ) → AreRows fill s value n words → n ≡ time s
     → IsFilled (rows_run (lanes s * element_words s) words) s fill

@@ -1,11 +1,12 @@
 -- Words that are pushed piece by piece.
 use Rattle.std.proofs.Common.{◌≡◌, ℕ, zero, suc, ◌+◌, ◌*◌, ◌<◌, ◌≤◌, List, ◌++◌, [], ◌∷◌, length, take, drop, get_or, flat_map, refl, ap, sym, ◌∙◌, subst, arith, inl, inr, Some, slice_get, length-append}
 use Rattle.std.specs.List.{range_with_len}
+use Rattle.std.specs.Prelude.{unwrap_or}
 use Rattle.std.proofs.lemmas.Grind.{flat_map-append}
 use Rattle.std.proofs.lemmas.List.{append-nil, get_or_append_left, get_or-append-add, get_or-take, get_or-drop, length-take, length-drop}
 use Rattle.std.proofs.lemmas.Nat.{mul-add-lt, mul-le}
 use Rattle.std.proofs.lemmas.Bool.{cases_lt}
-use Rattle.std.proofs.lemmas.Option.{get_or_from_slice_get}
+use Rattle.std.proofs.lemmas.Option.{unwrap_or-slice_get}
 use Rattle.ae_sttype.specs.declared.st_type.Slot.{Slot}
 use Rattle.ae_sttype.specs.StTree.{StTree, time, lanes, st_atoms, element_words}
 use Rattle.ae_sttype.specs.Slots.{slots}
@@ -85,7 +86,7 @@ pub taken_piece : (s : StTree) (width n m : ℕ) (rows words : List ℕ) (w : Sl
     Pieces (Taken s width rows) width (n + 1) (words ++ take m (drop (w.clock * (lanes s * width) + w.lane * width) rows))
 taken_piece s width n m rows words w same ps at c l long =
     let fits = words_within w.clock w.lane (time s) (lanes s) width c l in
-    let is : slot_of s n ≡ w = get_or_from_slice_get (slots s) n w (slot_at 0 0) at in
+    let is : slot_of s n ≡ w = ap (λ o. unwrap_or o (slot_at 0 0)) at in
     rw same (piece_more (Taken s width rows) width n words _ ps
     (simp (length-take, length-drop) (omega (arith, fits, long)))
     (λ j h. rw (
@@ -100,9 +101,9 @@ pub holds_taken : (s : StTree) (width n : ℕ) (rows words : List ℕ) → Piece
     Holds (rows_run (lanes s * width) rows) 0 width (slots s) words
 holds_taken s width n rows words ps all e j w at h =
     let st = stands_from_get s e w.clock w.lane at in
-    sym (ps.each e j (omega (arith, st.below)) h
+    rw (unwrap_or-slice_get words (e * width + j) 0) (sym (ps.each e j (omega (arith, st.below)) h
     ∙ ap (λ (y : Slot). get_or rows (y.clock * (lanes s * width) + (y.lane * width + j)) 0) st.is
-    ∙ ap (λ c. get_or rows (c * (lanes s * width) + (w.lane * width + j)) 0) (let z : w.clock ≡ 0 + w.clock = omega arith in z))
+    ∙ ap (λ c. get_or rows (c * (lanes s * width) + (w.lane * width + j)) 0) (let z : w.clock ≡ 0 + w.clock = omega arith in z)))
 
 pub columns_below : (s : StTree) (width : ℕ) → IsInSize s → width ≡ element_words s → lanes s * width ≤ 16384
 columns_below s width h is =

@@ -1,11 +1,12 @@
 -- The lower bound on latency: two runs that differ in one input word alone, and only from its clock on.
-use Rattle.std.proofs.Common.{◌≡◌, ℕ, zero, suc, ◌+◌, ◌-◌, ◌*◌, ◌/◌, ◌%◌, ◌^◌, ◌<◌, ◌≤◌, ◌==◌, inl, inr, max, Bool, true, false, if◌then◌else◌, List, [], ◌∷◌, length, map, get_or, None, Some, slice_get, refl, arith, sym, ap, ◌∙◌, subst, ⊎_elim}
-use Rattle.std.specs.Prelude.{codes, bytes_eq, flat_map}
+use Rattle.std.proofs.Common.{◌≡◌, ℕ, zero, suc, ◌+◌, ◌-◌, ◌*◌, ◌/◌, ◌%◌, ◌^◌, ◌<◌, ◌≤◌, ◌==◌, inl, inr, max, Bool, true, false, if◌then◌else◌, List, [], ◌∷◌, length, map, None, Some, slice_get, get_or, refl, arith, sym, ap, ◌∙◌, subst, ⊎_elim}
+use Rattle.std.specs.Prelude.{unwrap_or, codes, bytes_eq, flat_map}
 use Rattle.std.specs.List.{range_with_len, fold}
 use Rattle.std.proofs.Math.Nat.{pow-le-pow_right, mod-eq_of_lt, mod-le}
 use Rattle.std.proofs.lemmas.Bool.{cases_Bool, cases_lt, cond-true, cond-false}
 use Rattle.std.proofs.lemmas.Bool.Decides.{nat_tests}
 use Rattle.std.proofs.lemmas.Nat.{div-add-mod'}
+use Rattle.std.proofs.lemmas.Option.{unwrap_or-slice_get}
 use Rattle.ae_word.specs.AtomTree.{atom_kinds, atom_words}
 use Rattle.ae_seqtype.specs.SeqTree.{SeqTree, words, atom_of}
 use Rattle.ae_seqtype.specs.ValueTree.{ValueTree, flat}
@@ -176,7 +177,8 @@ module _ (m : ModuleTree) (ok : IsWellFormed m) (ins outs : List StTree) (ports 
 -- the first bytes of names
 not-reset : (name tail : List ℕ) → name ≡ 105 ∷ tail → bytes_eq name (codes "rst") ≡ false
 not-reset name tail e = elim (cases_Bool (bytes_eq name (codes "rst"))) [
-  | inl t ↦ absurd (let s : 105 ∷ tail ≡ codes "rst" = sym e ∙ same_bytes name (codes "rst") t in let h : 105 ≡ 114 = ap (λ ns. get_or ns 0 0) s in omega arith)
+  | inl t ↦ absurd (let s : 105 ∷ tail ≡ codes "rst" = sym e ∙ same_bytes name (codes "rst") t in
+      let h : 105 ≡ 114 = ap (λ ns. unwrap_or (slice_get ns 0) 0) s in omega arith)
   | inr f ↦ f
 ]
 
@@ -191,7 +193,7 @@ module _ (p : ProgramTree) (slowdown d : ℕ) (m : ModuleTree) (ins outs : List 
     out : StTree
     found : slice_get outs r ≡ Some out
     below : o < st_atoms out * element_words out
-    label : get_or (flat (at (trace p) r)) o 0 ≡ suc n
+    label : unwrap_or (slice_get (flat (at (trace p) r)) o) 0 ≡ suc n
     from : StandsAt 0 types n
     source : StTree
     source_found : slice_get ins from.value ≡ Some source
@@ -290,7 +292,8 @@ module _ (p : ProgramTree) (slowdown d : ℕ) (m : ModuleTree) (ins outs : List 
           let inside : w.from.place < words own.type = omega (arith, own.is_laid.words, place_below) in
           let here : wanted in_port.port.name k b (1 + k) in_port.port.name ≡ b = wanted-here in_port.port.name k b
           (not-reset in_port.port.name in_port.is.tail in_port.is.named) in
-          read-word-at x.run slowdown 0 types ins w.from.value w.source own w.from.place inside
+          sym (unwrap_or-slice_get (flat (at block w.from.value)) w.from.place 0)
+          ∙ read-word-at x.run slowdown 0 types ins w.from.value w.source own w.from.place inside
           ∙ ap (λ i. wave x.run 1 (param_ports i w.source) k q) z
           ∙ ap (clock_at x.run (1 + k)).word in_port.named
           ∙ shown m ok ins outs ports clocked in_port.port.name k b size bit (omega arith) x in_port.port.name in_port.port.width
@@ -299,14 +302,15 @@ module _ (p : ProgramTree) (slowdown d : ℕ) (m : ModuleTree) (ins outs : List 
           ∙ bit-mod b in_port.port.width bit in_port.is.low
 
       -- and the word of the result
-      result_word : get_or (flat (at (mean p block) r)) o 0 ≡ b
+      result_word : unwrap_or (slice_get (flat (at (mean p block) r)) o) 0 ≡ b
       result_word =
           let f : ℕ → ℕ = word_numbered (flat_map flat block) in
-          ap (λ vs. get_or (flat (at vs r)) o 0) (means-by-trace p block moves values)
-          ∙ ap (λ v. get_or (flat v) o 0) (at-map (renamed f) refl (trace p) r)
-          ∙ ap (λ ws. get_or ws o 0) (flat-renamed f (at (trace p) r))
+          ap (λ vs. unwrap_or (slice_get (flat (at vs r)) o) 0) (means-by-trace p block moves values)
+          ∙ ap (λ v. unwrap_or (slice_get (flat v) o) 0) (at-map (renamed f) refl (trace p) r)
+          ∙ ap (λ ws. unwrap_or (slice_get ws o) 0) (flat-renamed f (at (trace p) r))
+          ∙ unwrap_or-slice_get (map f (flat (at (trace p) r))) o 0
           ∙ index-map f refl (flat (at (trace p) r)) o
-          ∙ ap f w.label
+          ∙ ap f (sym (unwrap_or-slice_get (flat (at (trace p) r)) o 0) ∙ w.label)
           ∙ w.from.word block values
           ∙ word_read
 
@@ -317,7 +321,7 @@ module _ (p : ProgramTree) (slowdown d : ℕ) (m : ModuleTree) (ins outs : List 
           ap (clock_at x.run shown_at).word (sym out_port.named)
           ∙ results.each r w.out w.found (o / element_words w.out) (o % element_words w.out) s
           (slot-there w.out (o / element_words w.out) out_place.element) out_place.word
-          ∙ ap (λ i. get_or (flat (at (mean p block) r)) i 0) whole
+          ∙ ap (λ i. unwrap_or (slice_get (flat (at (mean p block) r)) i) 0) whole
           ∙ result_word
 
     -- so it does not come before the source
@@ -353,7 +357,7 @@ module _ (p : ProgramTree) (slowdown d : ℕ) (m : ModuleTree) (ins outs : List 
   layout-there (x ∷ ts) (s ∷ ss) h zero t f = (let e : x ≡ t = cc in (s, refl, subst (λ y. IsLaid y slowdown s) e h.0))
   layout-there (x ∷ ts) (s ∷ ss) h (suc k) t f = layout-there ts ss h.1 k t f
 
-  index-there : (ss : List StTree) (k : ℕ) (s e : StTree) → slice_get ss k ≡ Some s → get_or ss k e ≡ s
+  index-there : (ss : List StTree) (k : ℕ) (s e : StTree) → slice_get ss k ≡ Some s → unwrap_or (slice_get ss k) e ≡ s
   index-there [] k s e f = absurd (let h : None ≡ Some s = f in cc)
   index-there (x ∷ ss) zero s e f = cc
   index-there (x ∷ ss) (suc k) s e f = index-there ss k s e f
@@ -365,7 +369,7 @@ module _ (p : ProgramTree) (slowdown d : ℕ) (m : ModuleTree) (ins outs : List 
     abbrev clock : ℕ
     clock = (slot_number out (o / element_words out)).clock
 
-    lead-from-word : (n : ℕ) → get_or (flat (at (trace p) r)) o 0 ≡ suc n → StandsAt 0 (parameter_types p) n
+    lead-from-word : (n : ℕ) → unwrap_or (slice_get (flat (at (trace p) r)) o) 0 ≡ suc n → StandsAt 0 (parameter_types p) n
         → lead_from clock (source_of ins (origin_numbered (parameter_types p) (suc n))) ≤ d
     lead-from-word n label w =
         let s = layout-there (parameter_types p) ins laid w.value w.type w.found in
@@ -376,7 +380,7 @@ module _ (p : ProgramTree) (slowdown d : ℕ) (m : ModuleTree) (ins outs : List 
         let e : ℕ = w.place / element_words s.0 in
         let is : origin_numbered (parameter_types p) (suc n) ≡ from_input w.value e (w.place % element_words s.0) =
         w.is ∙ (λ i. from_input (z i) (w.place / size i) (w.place % size i)) in
-        let source : get_or ins w.value _ ≡ s.0 = index-there ins w.value s.0 _ s.1 in
+        let source : unwrap_or (slice_get ins w.value) _ ≡ s.0 = index-there ins w.value s.0 _ s.1 in
         let lead : lead_from clock (source_of ins (origin_numbered (parameter_types p) (suc n))) ≡ (slot_number s.0 e).clock - clock =
         ap (λ x. lead_from clock (source_of ins x)) is ∙ ap (λ (x : StTree). (slot_number x e).clock - clock) source in
         let no : d + clock < (slot_number s.0 e).clock → ⊥ = not-before p slowdown d m ins outs moves some ok ports clocked keeps laid outs_laid r o n way in
@@ -384,16 +388,17 @@ module _ (p : ProgramTree) (slowdown d : ℕ) (m : ModuleTree) (ins outs : List 
         (λ (h : (slot_number s.0 e).clock ≤ d + clock). h) (cases_lt (d + clock) (slot_number s.0 e).clock) in
         omega (arith, lead, late)
 
-    lead-by : (label : ℕ) → get_or (flat (at (trace p) r)) o 0 ≡ label → lead_from clock (source_of ins (origin_numbered (parameter_types p) label)) ≤ d
+    lead-by : (label : ℕ) → unwrap_or (slice_get (flat (at (trace p) r)) o) 0 ≡ label
+        → lead_from clock (source_of ins (origin_numbered (parameter_types p) label)) ≤ d
     lead-by zero e = lead-fixed clock 0 (fixed 0) refl
     lead-by (suc n) e =
         ⊎_elim (λ (h : HasNone 0 (parameter_types p) n). lead-fixed clock 0 (origin_numbered (parameter_types p) (suc n)) h.is)
         (λ (w : StandsAt 0 (parameter_types p) n). lead-from-word n e w) (origin-cases 0 (parameter_types p) n)
 
-    lead-below : lead_from clock (source_of ins (get_or (map (origin_numbered (parameter_types p)) (flat (at (trace p) r))) o (fixed 0))) ≤ d
+    lead-below : lead_from clock (source_of ins (unwrap_or (slice_get (map (origin_numbered (parameter_types p)) (flat (at (trace p) r))) o) (fixed 0))) ≤ d
     lead-below =
         subst (λ x. lead_from clock (source_of ins x) ≤ d) (sym (origin-map (origin_numbered (parameter_types p)) refl (flat (at (trace p) r)) o))
-        (lead-by (get_or (flat (at (trace p) r)) o 0) refl)
+        (lead-by (unwrap_or (slice_get (flat (at (trace p) r)) o) 0) refl)
 
   entry-of : {X : Type 0} (f : ℕ → X) (a n k : ℕ) (x : X) → slice_get (map f (range_with_len a n)) k ≡ Some x → (k < n) × (x ≡ f (a + k))
   entry-of f a zero k x h = absurd (let e : None ≡ Some x = h in cc)

@@ -1,6 +1,6 @@
 -- The nets of a module by its ports.
-use Rattle.std.proofs.Common.{◌≡◌, ℕ, zero, suc, ◌+◌, ◌*◌, ◌<◌, ◌≤◌, inl, inr, Bool, true, false, ◌||◌, ◌==◌, List, [], ◌∷◌, ◌++◌, length, map, get_or, None, Some, slice_get, refl, arith, sym, ap, ◌∙◌, subst, length-append}
-use Rattle.std.specs.Prelude.{codes, bytes_eq, filter}
+use Rattle.std.proofs.Common.{◌≡◌, ℕ, zero, suc, ◌+◌, ◌*◌, ◌<◌, ◌≤◌, inl, inr, Bool, true, false, ◌||◌, ◌==◌, List, [], ◌∷◌, ◌++◌, length, map, None, Some, slice_get, refl, arith, sym, ap, ◌∙◌, subst, length-append}
+use Rattle.std.specs.Prelude.{unwrap_or, codes, bytes_eq, filter}
 use Rattle.std.proofs.lemmas.Bool.{cases_Bool, cond-true, cond-false}
 use Rattle.ae_word.specs.AtomTree.{WordKind, atom_kinds}
 use Rattle.ae_seqtype.specs.SeqTree.{atom}
@@ -78,9 +78,10 @@ pub record HasPort (first : ℕ) (out : Bool) (ports : List ModulePort) (column 
   pub port : ModulePort
   pub there : Among port ports
   pub is : IsPort first out port
-  pub named : get_or (map name_of ports) column [] ≡ port.name
+  pub named : unwrap_or (slice_get (map name_of ports) column) [] ≡ port.name
 
-entry-at : (ports : List ModulePort) (k : ℕ) → k < length ports → (p : ModulePort) × (slice_get ports k ≡ Some p) × (get_or (map name_of ports) k [] ≡ p.name)
+entry-at : (ports : List ModulePort) (k : ℕ) → k < length ports → (p : ModulePort) × (slice_get ports k ≡ Some p)
+    × (unwrap_or (slice_get (map name_of ports) k) [] ≡ p.name)
 entry-at [] k h = absurd (omega arith)
 entry-at (p ∷ ports) zero h = (p, refl, refl)
 entry-at (p ∷ ports) (suc k) h = entry-at ports k (omega arith)

@@ -1,12 +1,13 @@
 -- When items arrive, and what the nodes of an instance cost.
-use Rattle.std.proofs.Common.{ℕ, zero, suc, Bool, true, false, ◌==◌, ◌≡◌, ◌+◌, ◌-◌, ◌*◌, ◌<◌, ◌≤◌, inl, inr, max, fold, List, [], ◌∷◌, ◌++◌, append_assoc, length, length-append, map, take, drop, sum_by, get_or, Some, slice_get, arith, refl, ap, sym, ◌∙◌, subst}
+use Rattle.std.proofs.Common.{ℕ, zero, suc, Bool, true, false, ◌==◌, ◌≡◌, ◌+◌, ◌-◌, ◌*◌, ◌<◌, ◌≤◌, inl, inr, max, fold, List, [], ◌∷◌, ◌++◌, append_assoc, length, length-append, map, take, drop, sum_by, get_or, Some, slice_get, arith, refl, ap, sym, ◌∙◌, subst, Option}
 use Rattle.std.specs.Option.{option_map}
 use Rattle.std.proofs.Math.Nat.{mul-le-mul_right}
 use Rattle.std.proofs.lemmas.Bool.{cases_lt}
 use Rattle.std.proofs.lemmas.Bool.Decides.{nat_tests}
 use Rattle.std.proofs.lemmas.List.{get_or_append_left, get_or_past, get_or_at, length-map, length-take-le, map-append, take-append-drop, take-take}
 use Rattle.std.proofs.lemmas.List.Sums.{sum_by-cons, sum_by_more, sum_by_more_le, sum_by_push}
-use Rattle.std.proofs.lemmas.Option.{get_or_from_slice_get, none-some, same_Some, slice_get-get_or, slice_get-map, slice_get_within}
+use Rattle.std.proofs.lemmas.Option.{get_or_from_slice_get, none-some, same_Some, slice_get-get_or, slice_get-map, slice_get_within, unwrap_or-slice_get}
+use Rattle.std.specs.Prelude.{unwrap_or}
 use Rattle.ae_seq.specs.Typing.{grown}
 use Rattle.ae_eval.proofs.Items.{entry-grown, slice_get-take, take-grown}
 use Rattle.ae_moves.proofs.Words.{lead_le}
@@ -38,14 +39,17 @@ greatest_at f a (y ∷ ys) zero x h =
 greatest_at f a (y ∷ ys) (suc r) x h = greatest_at f (max a (f y)) ys r x h
 
 pub latest_at : (arrivals items : List ℕ) (r i : ℕ) → slice_get items r ≡ Some i → get_or arrivals i 0 ≤ latest arrivals items
-latest_at arrivals items r i h = greatest_at (λ a. get_or arrivals a 0) 0 items r i h
+latest_at arrivals items r i h = subst (λ v. v ≤ latest arrivals items) (unwrap_or-slice_get arrivals i 0)
+    (greatest_at (λ a. unwrap_or (slice_get arrivals a) 0) 0 items r i h)
 
 uses_same : (xs ys : List ℕ) (start : ℕ) (chosen : List ℕ) → ((r i : ℕ) → slice_get chosen r ≡ Some i → get_or xs i 0 ≡ get_or ys i 0)
     → uses_at xs start chosen ≡ uses_at ys start chosen
 uses_same xs ys start [] same = refl
 uses_same xs ys start (i ∷ is) same =
-    ap (λ (v : ℕ). (let u : Use = record { item = i; slack = start - v } in u) ∷ uses_at xs start is) (same 0 i refl)
-    ∙ ap (λ us. (let u : Use = record { item = i; slack = start - get_or ys i 0 } in u) ∷ us) (uses_same xs ys start is (λ r k h. same (suc r) k h))
+    ap (λ (v : ℕ). (let u : Use = record { item = i; slack = start - v } in u) ∷ uses_at xs start is)
+    (unwrap_or-slice_get xs i 0 ∙ (same 0 i refl ∙ sym (unwrap_or-slice_get ys i 0)))
+    ∙ ap (λ us. (let u : Use = record { item = i; slack = start - unwrap_or (slice_get ys i) 0 } in u) ∷ us)
+    (uses_same xs ys start is (λ r k h. same (suc r) k h))
 
 -- what waits as its slack is as late as the latest
 pub wait_at : (arrivals chosen waits : List ℕ) (r i : ℕ) → waits ≡ joint_slacks arrivals chosen → slice_get chosen r ≡ Some i
@@ -83,8 +87,9 @@ delays_cost items arrivals start layouts [] long = refl
 delays_cost items arrivals start layouts (i ∷ is) long =
     let waits : List ℕ → List ℕ = λ cs. map (λ a. start - get_or arrivals a 0) cs in
     let g : Use → ℕ = λ u. u.slack * columns_of (item_layout layouts u.item) in
-    let u : Use = record { item = i; slack = start - get_or arrivals i 0 } in
-    let one : (start - get_or arrivals i 0) * length (get_or items i []) ≡ g u = ap (λ n. (start - get_or arrivals i 0) * n) (long 0 i refl) in
+    let u : Use = record { item = i; slack = start - unwrap_or (slice_get arrivals i) 0 } in
+    let one : (start - get_or arrivals i 0) * length (get_or items i []) ≡ g u =
+    (λ k. (start - sym (unwrap_or-slice_get arrivals i 0) k) * long 0 i refl k) in
     let rest : delay_load items (waits is) is ≡ sum_by g (uses_at arrivals start is) = delays_cost items arrivals start layouts is
     (λ r k h. long (suc r) k h) in
     ap (λ n. n + delay_load items (waits is) is) one ∙ (ap (λ n. g u + n) rest ∙ sym (sum_by-cons g u (uses_at arrivals start is)))
@@ -106,12 +111,13 @@ one_of a b = omega arith
 one_first : (a b c d : ℕ) → 1 ≤ 1 + a + b + c + d
 one_first a b c d = omega arith
 
-known_early : (known : List OwnCosts) (k : ℕ) → AreEarly known → (get_or known k wire_costs).latency ≤ (get_or known k wire_costs).load
-known_early known k early = elim (cases_lt k (length known)) [
+known_early : (known : List OwnCosts) (k : ℕ) → AreEarly known
+    → (unwrap_or (slice_get known k) wire_costs).latency ≤ (unwrap_or (slice_get known k) wire_costs).load
+known_early known k early = rw (unwrap_or-slice_get known k wire_costs) (elim (cases_lt k (length known)) [
   | inl l ↦ early k (get_or known k wire_costs) (slice_get-get_or known k wire_costs l)
   | inr l ↦ (let e : get_or known k wire_costs ≡ wire_costs = get_or_past known k wire_costs l in
       subst (λ (c : OwnCosts). c.latency ≤ c.load) (sym e) (omega arith))
-]
+])
 
 copies_le : (copies a b : ℕ) → 1 ≤ copies → a ≤ b → a ≤ 1 + copies * b
 copies_le copies a b some l = let up : 1 * b ≤ copies * b = mul-le-mul_right b some in omega (arith, up)
@@ -171,10 +177,11 @@ next_early : (known : List OwnCosts) (s : StFuncTree) (ts : List NodeTiming) (n 
     → (next_timing known s ts n).arrival ≤ sum_by load_of ts + (next_timing known s ts n).load
 unfolding AllEarly
 next_early known s ts n some early all =
-    let start : latest (arrivals_of s.ins ts) n.args ≤ sum_by load_of ts = lead_le (λ a. get_or (arrivals_of s.ins ts) a 0) 0 (sum_by load_of ts) n.args
-    (omega arith) (λ i k f. all i) in
+    let start : latest (arrivals_of s.ins ts) n.args ≤ sum_by load_of ts =
+    lead_le (λ a. unwrap_or (slice_get (arrivals_of s.ins ts) a) 0) 0 (sum_by load_of ts) n.args
+    (omega arith) (λ i k f. subst (λ v. v ≤ sum_by load_of ts) (sym (unwrap_or-slice_get (arrivals_of s.ins ts) i 0)) (all i)) in
     let own : (node_costs known (item_layouts s) n).latency ≤ (node_costs known (item_layouts s) n).load = op_early known
-    (item_layout (item_layouts s) (get_or n.args 0 0)) n.type n.copies n.op some early in
+    (item_layout (item_layouts s) (unwrap_or (slice_get n.args 0) 0)) n.type n.copies n.op some early in
     omega (arith, start, own)
 
 grown_early : (known : List OwnCosts) (s : StFuncTree) (ns : List StNodeTree) (ts : List NodeTiming)
@@ -197,8 +204,9 @@ unfolding AllEarly
 func_early known s some early =
     let ts : List NodeTiming = node_timings known s in
     let all : AllEarly s.ins ts = grown_early known s s.nodes [] some early (no_early s.ins) in
-    let end : latest (arrivals_of s.ins ts) s.results ≤ sum_by load_of ts = lead_le (λ a. get_or (arrivals_of s.ins ts) a 0) 0 (sum_by load_of ts) s.results
-    (omega arith) (λ i k f. all i) in
+    let end : latest (arrivals_of s.ins ts) s.results ≤ sum_by load_of ts =
+    lead_le (λ a. unwrap_or (slice_get (arrivals_of s.ins ts) a) 0) 0 (sum_by load_of ts) s.results
+    (omega arith) (λ i k f. subst (λ v. v ≤ sum_by load_of ts) (sym (unwrap_or-slice_get (arrivals_of s.ins ts) i 0)) (all i)) in
     omega (arith, end)
 
 costs_early : (xs : List StFuncTree) (known : List OwnCosts) → ((k : ℕ) (s : StFuncTree) → slice_get xs k ≡ Some s → AreCopied s) → AreEarly known
@@ -280,7 +288,8 @@ grown_loads : (known : List OwnCosts) (s : StFuncTree) (ns : List StNodeTree) (t
 grown_loads known s [] ts h = omega arith
 grown_loads known s (n ∷ ns) ts h =
     let t : NodeTiming = next_timing known s ts n in
-    let own : 1 ≤ (node_costs known (item_layouts s) n).load = op_loads known (item_layout (item_layouts s) (get_or n.args 0 0)) n.type n.copies n.op in
+    let own : 1 ≤ (node_costs known (item_layouts s) n).load =
+    op_loads known (item_layout (item_layouts s) (unwrap_or (slice_get n.args 0) 0)) n.type n.copies n.op in
     let more : sum_by load_of (ts ++ t ∷ []) ≡ sum_by load_of ts + t.load = sum_by_push load_of ts t in
     let long : length (ts ++ t ∷ []) ≡ length ts + 1 = length-append ts (t ∷ []) in
     let rest = grown_loads known s ns (ts ++ t ∷ []) (omega (arith, own, more, long)) in
@@ -323,7 +332,8 @@ node_facts instances k j s n t sound h below =
     (let low : i < length s.ins + j = below r i f in
     sym (ap (λ xs. get_or xs i 0) split ∙ get_or_append_left (arrivals_of s.ins before) (map (λ (x : NodeTiming). x.arrival) (drop j ts)) 0 i (omega arith))) in
     let lates : latest (arrivals_of s.ins before) n.args ≡ latest (arrivals_in instances k s) n.args = greatest_same
-    (λ a. get_or (arrivals_of s.ins before) a 0) (λ a. get_or (arrivals_in instances k s) a 0) 0 n.args reads in
+    (λ a. unwrap_or (slice_get (arrivals_of s.ins before) a) 0) (λ a. unwrap_or (slice_get (arrivals_in instances k s) a) 0) 0 n.args
+    (λ r i f. unwrap_or-slice_get (arrivals_of s.ins before) i 0 ∙ (reads r i f ∙ sym (unwrap_or-slice_get (arrivals_in instances k s) i 0))) in
     let used : uses_at (arrivals_of s.ins before) (latest (arrivals_of s.ins before) n.args) n.args ≡ joint_uses (arrivals_in instances k s) n.args =
     ap (λ i. uses_at (arrivals_of s.ins before) i n.args) lates ∙
     uses_same (arrivals_of s.ins before) (arrivals_in instances k s) (latest (arrivals_in instances k s) n.args) n.args reads in
@@ -331,7 +341,9 @@ node_facts instances k j s n t sound h below =
     (λ i m f. sound_copied instances k s sound h.func i m (take_at j i s.nodes m f)) (all_early instances k sound) (no_early s.ins) in
     let sums : latest (arrivals_of s.ins before) n.args ≤ sum_by load_of before = subst
     (λ (us : List NodeTiming). latest (arrivals_of s.ins us) n.args ≤ sum_by load_of us) (sym first_ones)
-    (lead_le (λ a. get_or (arrivals_of s.ins (grown (next_timing known s) [] (take j s.nodes))) a 0) 0 _ n.args (omega arith) (λ i r f. early i)) in
+    (lead_le (λ a. unwrap_or (slice_get (arrivals_of s.ins (grown (next_timing known s) [] (take j s.nodes))) a) 0) 0 _ n.args (omega arith)
+    (λ i r f. subst (λ v. v ≤ sum_by load_of (grown (next_timing known s) [] (take j s.nodes)))
+    (sym (unwrap_or-slice_get (arrivals_of s.ins (grown (next_timing known s) [] (take j s.nodes))) i 0)) (early i))) in
     let place : length (map (λ (x : StTree). zero) s.ins) + j ≡ length s.ins + j = ap (λ i. i + j) (length-map s.ins (λ (x : StTree). zero)) in
     let own : get_or (arrivals_in instances k s) (length s.ins + j) 0 ≡ (next_timing known s before n).arrival =
     ap (λ i. get_or (arrivals_in instances k s) i 0) (sym place) ∙
@@ -371,10 +383,10 @@ sums_most f instances k j s t at =
 
 -- a called instance
 pub callee_costs : (instances : List StFuncTree) (k m : ℕ) (f : StFuncTree) → m < k → slice_get (take k instances) m ≡ Some f
-    → get_or (all_costs (take k instances)) m wire_costs ≡ instance_costs instances m
+    → unwrap_or (slice_get (all_costs (take k instances)) m) wire_costs ≡ instance_costs instances m
 callee_costs instances k m f below at =
     let same : take m (take k instances) ≡ take m instances = take-take m k instances (omega arith) in
     let entry : slice_get (all_costs (take k instances)) m ≡ Some (func_costs (all_costs (take m instances)) f) = entry-grown func_costs
     (take k instances) m f at ∙ ap (λ fs. Some (func_costs (all_costs fs) f)) same in
-    get_or_from_slice_get (all_costs (take k instances)) m (func_costs (all_costs (take m instances)) f) wire_costs entry ∙
+    ap (λ (o : Option OwnCosts). unwrap_or o wire_costs) entry ∙
     sym (costs_are instances m f (sym (slice_get-take k m instances below) ∙ at))

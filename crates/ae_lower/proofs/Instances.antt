@@ -2,7 +2,7 @@
 use Rattle.std.proofs.Common.{ℕ, zero, suc, ◌≡◌, ◌+◌, ◌*◌, ◌<◌, ◌≤◌, inl, inr, List, [], ◌∷◌, ◌++◌, length, length-append, map, take, sum_by, get_or, Some, slice_get, arith, refl, ap, sym, ◌∙◌, subst}
 use Rattle.std.specs.Option.{option_map}
 use Rattle.std.proofs.lemmas.List.{get_or_append_left, length-map, length_push}
-use Rattle.std.proofs.lemmas.Option.{get_or_from_slice_get, none-some, same_Some, slice_get-get_or, slice_get-map, slice_get_within}
+use Rattle.std.proofs.lemmas.Option.{get_or_from_slice_get, none-some, same_Some, slice_get-get_or, slice_get-map, slice_get_within, unwrap_or-slice_get}
 use Rattle.ae_word.specs.AtomTree.{unsigned_word}
 use Rattle.ae_sttype.specs.StTree.{StTree, atom, sseq}
 use Rattle.ae_netlist.specs.declared.cell.NetId.{NetId}
@@ -73,8 +73,9 @@ param_item cells rst at known s ins i nets h found =
     let inside : i < length s.ins = omega (arith, slice_get_within ins i nets found, h.long, length-map s.ins stream_of) in
     let x : StTree = get_or s.ins i none_layout in
     let fx : slice_get s.ins i ≡ Some x = slice_get-get_or s.ins i none_layout inside in
-    let layout : item_layout (item_layouts s) i ≡ x = get_or_append_left s.ins (node_layouts s.nodes) (sseq 0 (atom (unsigned_word 1))) i inside ∙
-    get_or_from_slice_get s.ins i x (sseq 0 (atom (unsigned_word 1))) fx in
+    let layout : item_layout (item_layouts s) i ≡ x = unwrap_or-slice_get (item_layouts s) i (sseq 0 (atom (unsigned_word 1))) ∙
+    (get_or_append_left s.ins (node_layouts s.nodes) (sseq 0 (atom (unsigned_word 1))) i inside ∙
+    get_or_from_slice_get s.ins i x (sseq 0 (atom (unsigned_word 1))) fx) in
     let fs : slice_get (streams_of s.ins) i ≡ Some (stream_of x) = slice_get-map stream_of s.ins i ∙ ap (option_map stream_of) fx in
     record {
       there = subst (λ (z : StTree). AreNets cells (stream_widths (stream_of z)) nets) (sym layout) (h.each i (stream_of x) nets fs found);

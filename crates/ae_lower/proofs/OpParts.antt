@@ -1,5 +1,6 @@
 -- Operators on words, constants and moves as parts.
-use Rattle.std.proofs.Common.{ℕ, zero, suc, ◌≡◌, ◌*◌, List, [], ◌∷◌, map, get_or, slice_get, Some, if◌then◌else◌, arith, refl, sym, ap, subst}
+use Rattle.std.specs.Prelude.{unwrap_or}
+use Rattle.std.proofs.Common.{ℕ, zero, suc, ◌≡◌, ◌*◌, List, [], ◌∷◌, map, slice_get, Some, if◌then◌else◌, arith, refl, sym, ap, subst}
 use Rattle.std.specs.List.{range_with_len}
 use Rattle.ae_word.specs.declared.op.WordOp.{WordOp}
 use Rattle.ae_word.specs.declared.op.WordOp.TheVariants.{Add, Sub, Mul, And, Or, Xor, Not, Min, Max, Eq, Lt, Mux, Shl, Shr, Cast, SLt, SMin, SMax, Sar, SCast}
@@ -68,12 +69,12 @@ move_is known budget copies a s how fills = record {
 
 -- ---- constants
 
-fixed_source : (ws : List ℕ) (o : ℕ) → (w : ℕ) × (get_or (map fixed ws) o (fixed 0) ≡ fixed w)
+fixed_source : (ws : List ℕ) (o : ℕ) → (w : ℕ) × (unwrap_or (slice_get (map fixed ws) o) (fixed 0) ≡ fixed w)
 fixed_source [] o = (0, refl)
 fixed_source (w ∷ ws) zero = (w, refl)
 fixed_source (w ∷ ws) (suc o) = fixed_source ws o
 
-fixed_lead : (ws : List ℕ) (s : StTree) (o clock : ℕ) → lead_from clock (source_of [] (get_or (map fixed ws) o (fixed 0))) ≡ 0
+fixed_lead : (ws : List ℕ) (s : StTree) (o clock : ℕ) → lead_from clock (source_of [] (unwrap_or (slice_get (map fixed ws) o) (fixed 0))) ≡ 0
 fixed_lead ws s o clock = (let h = fixed_source ws o in rw h.1 refl)
 
 greatest_none : {X : Type 0} (f : X → ℕ) (xs : List X) → ((i : ℕ) (x : X) → slice_get xs i ≡ Some x → f x ≡ 0) → greatest f xs ≡ 0

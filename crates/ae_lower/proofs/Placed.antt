@@ -6,6 +6,7 @@ use Rattle.std.proofs.lemmas.List.{length-map, length-take-le}
 use Rattle.std.proofs.lemmas.Option.{get_or_from_slice_get, same_Some, slice_get-get_or, slice_get-map, slice_get_within}
 use Rattle.ae_eval.proofs.Items.{entry-grown, slice_get-take}
 use Rattle.std.proofs.lemmas.List.{take-take}
+use Rattle.std.specs.Prelude.{unwrap_or}
 use Rattle.ae_word.specs.AtomTree.{unsigned_word}
 use Rattle.ae_sttype.specs.StTree.{StTree, atom, sseq}
 use Rattle.ae_sttype.proofs.Bounds.{atoms_pos}
@@ -64,7 +65,7 @@ calls_nothing _ h = tt
 
 item_fills : (k : ℕ) (s : StFuncTree) → IsSoundFunc k s → AreFilling s.budget (item_layouts s)
 item_fills k s h i x found =
-    let is : item_layout (item_layouts s) i ≡ x = get_or_from_slice_get (item_layouts s) i x none_layout found in
+    let is : item_layout (item_layouts s) i ≡ x = ap (λ o. unwrap_or o none_layout) found in
     subst (λ (z : StTree). IsFilling s.budget z) is (all_items k s h i (slice_get_within (item_layouts s) i x found))
 
 pub arrivals_told : (instances : List StFuncTree) (told : List (List ℕ)) (k at : ℕ) (s : StFuncTree) → IsTimed instances told
@@ -208,7 +209,7 @@ plain_same known a s copies (scan op n m) h = refl
 plain_same known a s copies (body k) h = absurd h
 
 pub plain_is : (known : List OwnCosts) (s : StFuncTree) (n : StNodeTree) → CallsNothing n.op → plain_costs s n ≡ node_costs known (item_layouts s) n
-plain_is known s n h = plain_same known (item_layout (item_layouts s) (get_or n.args 0 0)) n.type n.copies n.op h
+plain_is known s n h = plain_same known (item_layout (item_layouts s) (unwrap_or (slice_get n.args 0) 0)) n.type n.copies n.op h
 
 pub node_ready : (instances : List StFuncTree) (k j at : ℕ) (s : StFuncTree) (n : StNodeTree) (own : List ℕ) (cells : List SizedCell)
     (args : List (List NetId)) → IsPlaced instances k j at s n own → AreBundles cells (streams_of (arguments_of s n)) args → IsReady cells s n args
@@ -246,7 +247,8 @@ is_call instances k j m at s n own is h =
         called = sym (slice_get-take k m instances below) ∙ fit.1;
         fits = fit.2;
         known = get_or_from_slice_get (callees (take k instances)) m (callee (callees (take m instances)) f) no_callee entry;
-        costs = ap (λ o. op_costs (all_costs (take k instances)) (item_layout (item_layouts s) (get_or n.args 0 0)) n.type n.copies o) is ∙
+        costs = ap (λ o. op_costs (all_costs (take k instances)) (item_layout (item_layouts s) (unwrap_or (slice_get n.args 0) 0)) n.type
+            n.copies o) is ∙
             ap (body_costs n.copies) (callee_costs instances k m f below fit.1);
       },
     )

@@ -1,5 +1,6 @@
 -- A part that does what a node does keeps the law of the node, within its costs.
-use Rattle.std.proofs.Common.{ℕ, ◌≡◌, ◌+◌, ◌≤◌, List, [], length, map, get_or, arith, sym, subst, ◌*◌}
+use Rattle.std.proofs.Common.{ℕ, ◌≡◌, ◌+◌, ◌≤◌, List, [], length, map, arith, sym, subst, ◌*◌, slice_get}
+use Rattle.std.specs.Prelude.{unwrap_or}
 use Rattle.ae_netlist.specs.declared.cell.NetId.{NetId}
 use Rattle.ae_netlist.specs.declared.cell.SizedCell.{SizedCell}
 use Rattle.ae_netlist.specs.Circuit.{Circuit}
@@ -58,9 +59,10 @@ node_built new rst at s n p args y does there keeps known = record {
 -- ---- a node with this operator on these items
 
 pub of_node : (known : List Callee) (s : StFuncTree) (n : StNodeTree) (items : List ℕ) (op : StOpTree) (p : Part) → n.op ≡ op → n.args ≡ items
-    → IsOpPart known s.budget n.copies (map (item_layout (item_layouts s)) items) (item_layout (item_layouts s) (get_or items 0 0)) n.type op p
+    → IsOpPart known s.budget n.copies (map (item_layout (item_layouts s)) items) (item_layout (item_layouts s) (unwrap_or (slice_get items 0) 0))
+    n.type op p
     → IsNodePart known s n p
 of_node known s n items op p eo ea h =
     let P : StOpTree → List ℕ → Type 0 = λ o xs. IsOpPart known s.budget n.copies (map (item_layout (item_layouts s)) xs)
-    (item_layout (item_layouts s) (get_or xs 0 0)) n.type o p in
+    (item_layout (item_layouts s) (unwrap_or (slice_get xs 0) 0)) n.type o p in
     subst (λ o. P o n.args) (sym eo) (subst (λ xs. P op xs) (sym ea) h)

@@ -2,7 +2,7 @@
 use Rattle.std.proofs.Common.{ℕ, ◌≡◌, true, ◌+◌, ◌-◌, ◌*◌, ◌<◌, ◌≤◌, List, [], ◌∷◌, length, map, Some, slice_get, get_or, arith, refl, sym, ap, ◌∙◌, subst}
 use Rattle.std.proofs.Math.Nat.{mul-le-mul_right}
 use Rattle.std.proofs.lemmas.List.{length-map}
-use Rattle.std.proofs.lemmas.Option.{slice_get-get_or}
+use Rattle.std.proofs.lemmas.Option.{slice_get-get_or, unwrap_or-slice_get}
 use Rattle.ae_word.specs.declared.op.WordOp.{WordOp}
 use Rattle.ae_word.specs.declared.op.WordOp.TheVariants.{Add, Sub, Mul, And, Or, Xor, Not, Min, Max, Eq, Lt, Mux, Shl, Shr, Cast, SLt, SMin, SMax, Sar, SCast}
 use Rattle.ae_word.specs.WordTable.{folds, row_of}
@@ -51,8 +51,8 @@ ready_below cells s n args k h low = h.below k (get_or n.args k 0) (slice_get-ge
 pub ready_item : (cells : List SizedCell) (s : StFuncTree) (n : StNodeTree) (args : List (List NetId)) (k : ℕ) → IsReady cells s n args → k < length n.args
     → IsFilling s.budget (argument_at s n k)
 ready_item cells s n args k h low =
-    h.items (get_or n.args k 0) (argument_at s n k) (slice_get-get_or (item_layouts s) (get_or n.args k 0) (sseq 0 (atom (unsigned_word 1)))
-    (ready_below cells s n args k h low))
+    h.items (get_or n.args k 0) (argument_at s n k) (rw (unwrap_or-slice_get (item_layouts s) (get_or n.args k 0) (sseq 0 (atom (unsigned_word 1))))
+    (slice_get-get_or (item_layouts s) (get_or n.args k 0) (sseq 0 (atom (unsigned_word 1))) (ready_below cells s n args k h low)))
 
 -- a list of one
 pub record IsOnly (xs : List ℕ) : Type 0 where
@@ -217,7 +217,8 @@ scan_node cells s n args op k m f h e is known =
 pub found_item : (cells : List SizedCell) (s : StFuncTree) (n : StNodeTree) (args : List (List NetId)) (k a : ℕ) → IsReady cells s n args
     → slice_get n.args k ≡ Some a → IsFilling s.budget (item_layout (item_layouts s) a)
 found_item cells s n args k a h found =
-    h.items a (item_layout (item_layouts s) a) (slice_get-get_or (item_layouts s) a (sseq 0 (atom (unsigned_word 1))) (h.below k a found))
+    h.items a (item_layout (item_layouts s) a) (rw (unwrap_or-slice_get (item_layouts s) a (sseq 0 (atom (unsigned_word 1))))
+    (slice_get-get_or (item_layouts s) a (sseq 0 (atom (unsigned_word 1))) (h.below k a found)))
 
 -- ---- operators on words
 

@@ -3,8 +3,9 @@ use Rattle.std.proofs.Common.{ℕ, zero, suc, ◌≡◌, ◌+◌, ◌*◌, ◌<�
 use Rattle.std.proofs.lemmas.List.{get_or-append-add, get_or_append_left, length-map}
 use Rattle.std.proofs.lemmas.List.FromFn.{get_or-map-range_with_len}
 use Rattle.std.proofs.lemmas.List.Sums.{sum_by-cons}
-use Rattle.std.proofs.lemmas.Option.{get_or_from_slice_get, same_Some, slice_get-get_or, slice_get-map, slice_get_within}
+use Rattle.std.proofs.lemmas.Option.{get_or_from_slice_get, same_Some, slice_get-get_or, slice_get-map, slice_get_within, unwrap_or-slice_get}
 use Rattle.std.specs.Option.{option_map}
+use Rattle.std.specs.Prelude.{unwrap_or}
 use Rattle.ae_seqtype.proofs.Sizes.{length-repeated}
 use Rattle.ae_sttype.specs.declared.st_type.Slot.{Slot}
 use Rattle.ae_sttype.specs.StTree.{StTree, lanes}
@@ -102,7 +103,8 @@ wave_outputs : (run : List Clock) (start : ℕ) (outlets : List Outlet) (bundles
 unfolding wave_of
 wave_outputs run start outlets bundles first nets show place c q h =
     let none : NetId = record { 0 = 0 } in
-    let is : outlet_net outlets (first + q) ≡ (get_or nets q none).0 = ap (λ (n : NetId). n.0) (ap (λ ns. get_or ns (first + q) none) show ∙ place q none h) in
+    let is : outlet_net outlets (first + q) ≡ (get_or nets q none).0 = ap (λ (n : NetId). n.0)
+    (ap (λ ns. unwrap_or (slice_get ns (first + q)) none) show ∙ (unwrap_or-slice_get (all_nets bundles) (first + q) none ∙ place q none h)) in
     ap (word_at run (start + c)) is ∙ sym (ap (net_word run (start + c)) (slice_get-get_or nets q none h))
 
 -- bundles for streams, of which one keeps the law of a part, are shown on the outputs: so the outputs keep it

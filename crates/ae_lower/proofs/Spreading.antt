@@ -6,7 +6,8 @@ use Rattle.ae_netlist.proofs.Gets.{get_from_take}
 use Rattle.std.proofs.Math.Nat.{mul-le-mul_right, mul_assoc, add-mul}
 use Rattle.std.proofs.lemmas.Nat.{mul-add-lt, div-add-mod', mod-mul-add, mod_below}
 use Rattle.std.proofs.lemmas.List.{length-take-le}
-use Rattle.std.proofs.lemmas.Option.{slice_get_within, none-some}
+use Rattle.std.proofs.lemmas.Option.{slice_get_within, none-some, unwrap_or-slice_get}
+use Rattle.std.specs.Prelude.{unwrap_or}
 use Rattle.ae_word.specs.AtomTree.{word}
 use Rattle.ae_sttype.specs.declared.st_type.Slot.{Slot}
 use Rattle.ae_sttype.specs.StTree.{StTree, tseq, sseq, time, lanes, st_atoms, element_words}
@@ -38,8 +39,11 @@ get_drop [] (suc n) i d = refl
 get_drop (w ∷ ws) (suc n) i d = get_drop ws n i d ∙ ap (λ k. get_or (w ∷ ws) k d) (let e : suc (n + i) ≡ suc n + i = omega arith in e)
 
 -- word r of piece e, of m words each
-piece_word : (ws : List ℕ) (m e r : ℕ) → r < m → get_or (take m (drop (e * m) ws)) r 0 ≡ get_or ws (e * m + r) 0
-piece_word ws m e r h = get_take (drop (e * m) ws) m r 0 h ∙ get_drop ws (e * m) r 0
+piece_word : (ws : List ℕ) (m e r : ℕ) → r < m
+    → unwrap_or (slice_get (take m (drop (e * m) ws)) r) 0 ≡ unwrap_or (slice_get ws (e * m + r)) 0
+piece_word ws m e r h =
+    unwrap_or-slice_get (take m (drop (e * m) ws)) r 0
+    ∙ (get_take (drop (e * m) ws) m r 0 h ∙ (get_drop ws (e * m) r 0 ∙ sym (unwrap_or-slice_get ws (e * m + r) 0)))
 
 -- ---- elements on lanes and in slots
 
@@ -112,11 +116,13 @@ join wave k n m t f long each e j w at lt =
     ∙ (ap (wave c) column
     ∙ (ap (λ x. wave c (p.l * columns_of t + (p.s.lane * x + j))) (sym wide)
     ∙ (held
+    ∙ (unwrap_or-slice_get (f i) (p.a * L + j) 0
     ∙ (ap (λ x. get_or (f i) (p.a * x + j) 0) wide
     ∙ (ap (λ x. get_or (f x) (p.a * W + j) 0) (sym number_is)
     ∙ (sym made
     ∙ (ap (λ i. get_or all i 0) (sym word)
-    ∙ ap (λ x. get_or all (e * x + j) 0) (sym wide)))))))))))
+    ∙ (ap (λ x. get_or all (e * x + j) 0) (sym wide)
+    ∙ sym (unwrap_or-slice_get all (e * L + j) 0)))))))))))))
 
 -- ---- the law
 

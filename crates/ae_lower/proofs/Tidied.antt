@@ -3,8 +3,10 @@ use Rattle.std.proofs.Common.{ℕ, zero, suc, ◌≡◌, ◌+◌, ◌-◌, ◌<�
 use Rattle.std.proofs.lemmas.Bool.{cases_lt}
 use Rattle.std.proofs.lemmas.List.{length-map, get_or_past, get_or-map}
 use Rattle.std.proofs.lemmas.List.Sums.{length-filter, sum_by-cons}
-use Rattle.std.proofs.lemmas.Option.{slice_get-get_or, slice_get_within, get_or_from_slice_get}
+use Rattle.std.specs.Option.{option_map}
+use Rattle.std.proofs.lemmas.Option.{slice_get-get_or, slice_get-map, unwrap_or-slice_get}
 use Rattle.std.proofs.Math.Seq.{take-length}
+use Rattle.std.specs.Prelude.{unwrap_or}
 use Rattle.ae_netlist.specs.declared.cell.NetId.{NetId}
 use Rattle.ae_netlist.specs.declared.cell.Port.{Port}
 use Rattle.ae_netlist.specs.declared.cell.Port.TheVariants.{Reset, In}
@@ -14,6 +16,7 @@ use Rattle.ae_netlist.specs.Circuit.{Circuit, width_of}
 use Rattle.ae_netlist.specs.Counts.{IsNumbered, count_of, number_of, is_input}
 use Rattle.ae_netlist.specs.Runs.{Clock, IsReset, IsRun, no_clock, word_at}
 use Rattle.ae_netlist.proofs.Gets.{get_from_take}
+use Rattle.ae_netlist.proofs.ReadAt.{word_got}
 use Rattle.ae_sttype.specs.StTree.{StTree}
 use Rattle.ae_sttype.specs.Size.{HasLengths}
 use Rattle.ae_ops.specs.Blocks.{AllHold, BlockLaw, Stream, stream_of, stream_widths}
@@ -57,8 +60,8 @@ input_at cells ps n e l =
 -- ---- words
 
 past : (run : List Clock) (t n : ℕ) → length run ≤ t → word_at run t n ≡ 0
-unfolding word_at no_clock
-past run t n l = rw (get_or_past run t no_clock l) refl
+unfolding no_clock
+past run t n l = word_got run t n ∙ rw (get_or_past run t no_clock l) refl
 
 -- the inputs have the same words in both runs
 abbrev SameInputs : ℕ → List Clock → List Clock → Type 0
@@ -101,12 +104,12 @@ same_count old new e =
 net_of : (outlets : List Outlet) (k : ℕ) (o : Outlet) → slice_get outlets k ≡ Some o → outlet_net outlets k ≡ o.net.0
 net_of outlets k o h =
     ap (λ (n : NetId). n.0)
-    (get_or-map (λ (x : Outlet). x.net) outlets k o (record { 0 = 0 }) (slice_get_within outlets k o h) ∙
-    ap (λ (x : Outlet). x.net) (get_or_from_slice_get outlets k o o h))
+    (ap (λ o. unwrap_or o (record { 0 = 0 })) (slice_get-map (λ (x : Outlet). x.net) outlets k ∙ ap (option_map (λ (x : Outlet). x.net)) h))
 
 no_net : (outlets : List Outlet) (k : ℕ) → length outlets ≤ k → outlet_net outlets k ≡ 0
 no_net outlets k l =
-    ap (λ (n : NetId). n.0) (get_or_past (map (λ (x : Outlet). x.net) outlets) k (record { 0 = 0 }) (rw (length-map outlets (λ (x : Outlet). x.net)) l))
+    ap (λ (n : NetId). n.0) (unwrap_or-slice_get (map (λ (x : Outlet). x.net) outlets) k (record { 0 = 0 })
+    ∙ get_or_past (map (λ (x : Outlet). x.net) outlets) k (record { 0 = 0 }) (rw (length-map outlets (λ (x : Outlet). x.net)) l))
 
 outputs_same : (old new : Circuit) (many : ℕ) (before after : List Clock) (t k : ℕ) → 0 < many → SameInputs many before after
     → shown_ports new ≡ shown_ports old → ShowTheSame old new before after

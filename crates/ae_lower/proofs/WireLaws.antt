@@ -3,7 +3,7 @@ use Rattle.std.proofs.Common.{ℕ, zero, suc, ◌≡◌, ◌+◌, ◌-◌, ◌*�
 use Rattle.std.proofs.Math.Nat.{mul-le-mul_right}
 use Rattle.std.proofs.lemmas.List.{get_or-append-add, get_or_append_left, length-drop}
 use Rattle.std.proofs.lemmas.Bool.{cases_lt}
-use Rattle.std.proofs.lemmas.Option.{slice_get_within}
+use Rattle.std.proofs.lemmas.Option.{slice_get_within, unwrap_or-slice_get}
 use Rattle.ae_sttype.specs.declared.st_type.Slot.{Slot}
 use Rattle.ae_eval.specs.Stack.{paired}
 use Rattle.ae_flow.specs.Flow.{parts, words_at}
@@ -107,8 +107,10 @@ pairs_hold at lanes k l us vs ps slots n m first second pairs ws xs lu lv lp cou
           ∙ (wires.firsts c w.lane j lane low
           ∙ (ap (λ x. first c (w.lane * x + j)) (sym lu)
           ∙ (held
+          ∙ (unwrap_or-slice_get ws (e * length us + j) 0
           ∙ (ap (λ x. get_or ws (e * x + j) 0) lu
-          ∙ (sym (paired_first n k l e j ws xs (omega arith) (omega arith) inside low) ∙ ap (λ x. get_or (paired n k l ws xs) (e * x + j) 0) (sym lp))))))
+          ∙ (sym (paired_first n k l e j ws xs (omega arith) (omega arith) inside low) ∙ (ap (λ x. get_or (paired n k l ws xs) (e * x + j) 0) (sym lp)
+          ∙ sym (unwrap_or-slice_get (paired n k l ws xs) (e * length ps + j) 0))))))))
       | inr high ↦
           let i : ℕ = j - k in
           let place : j ≡ k + i = omega arith in
@@ -119,9 +121,11 @@ pairs_hold at lanes k l us vs ps slots n m first second pairs ws xs lu lv lp cou
           ∙ (wires.seconds c w.lane i lane low
           ∙ (ap (λ x. second c (w.lane * x + i)) (sym lv)
           ∙ (held
+          ∙ (unwrap_or-slice_get xs (e * length vs + i) 0
           ∙ (ap (λ x. get_or xs (e * x + i) 0) lv
           ∙ (sym (paired_second n k l e i ws xs (omega arith) (omega arith) inside low)
-          ∙ (ap (λ x. get_or (paired n k l ws xs) (e * (k + l) + x) 0) (sym place) ∙ ap (λ x. get_or (paired n k l ws xs) (e * x + j) 0) (sym lp))))))))
+          ∙ (ap (λ x. get_or (paired n k l ws xs) (e * (k + l) + x) 0) (sym place) ∙ (ap (λ x. get_or (paired n k l ws xs) (e * x + j) 0) (sym lp)
+          ∙ sym (unwrap_or-slice_get (paired n k l ws xs) (e * length ps + j) 0))))))))))
     ]
 
 pairs_made : (a t lanes k l n m : ℕ) (us vs ps : List ℕ) (slots : List Slot) (first second pairs : Wave) → length us ≡ k → length vs ≡ l → length ps ≡ k + l
@@ -155,8 +159,10 @@ part_holds at lanes k o l n m us ps slots whole part ws lu lp inside count on wi
     ∙ (wires.each c w.lane j lane low
     ∙ (ap (λ x. whole c (w.lane * x + (o + j))) (sym lu)
     ∙ (held
+    ∙ (unwrap_or-slice_get ws (e * length us + (o + j)) 0
     ∙ (ap (λ x. get_or ws (e * x + (o + j)) 0) lu
-    ∙ (sym (part_word n k o l e j ws (omega arith) inside below low) ∙ ap (λ x. get_or (parts n k o l ws) (e * x + j) 0) (sym lp))))))
+    ∙ (sym (part_word n k o l e j ws (omega arith) inside below low) ∙ (ap (λ x. get_or (parts n k o l ws) (e * x + j) 0) (sym lp)
+    ∙ sym (unwrap_or-slice_get (parts n k o l ws) (e * length ps + j) 0))))))))
 
 part_made : (a t lanes k o l n m : ℕ) (us ps : List ℕ) (slots : List Slot) (whole part : Wave) → length us ≡ k → length ps ≡ l → o + l ≤ k → n ≡ length slots
     → AreOnLanes lanes slots → IsPartOf lanes k o l whole part → (b : ℕ) (values : List (List ℕ))

@@ -1,7 +1,8 @@
 -- Nodes that pair elements, or take parts of them.
-use Rattle.std.proofs.Common.{ℕ, suc, ◌≡◌, ◌-◌, ◌*◌, ◌<◌, Bool, true, false, cond, List, [], ◌∷◌, length, map, get_or, arith, refl, sym, ap, ◌∙◌, subst}
+use Rattle.std.proofs.Common.{ℕ, suc, ◌≡◌, ◌-◌, ◌*◌, ◌<◌, Bool, true, false, cond, List, [], ◌∷◌, length, map, get_or, arith, refl, sym, ap, ◌∙◌, subst, slice_get}
 use Rattle.std.proofs.lemmas.List.{length-map}
 use Rattle.std.proofs.lemmas.Option.{slice_get-get_or}
+use Rattle.std.specs.Prelude.{unwrap_or}
 use Rattle.ae_netlist.specs.declared.cell.NetId.{NetId}
 use Rattle.ae_netlist.specs.declared.cell.SizedCell.{SizedCell}
 use Rattle.ae_netlist.specs.Circuit.{Circuit}
@@ -60,14 +61,14 @@ wire_built : (known : List Callee) (s : StFuncTree) (n : StNodeTree) (items : Li
     (args given : List (List NetId)) (y : List NetId) → n.op ≡ op → n.args ≡ items → args ≡ given
     → AreNets new.cells (stream_widths (stream_of n.type)) y
     → KeepsLaw new.cells rst at
-    (plain_part s.budget (op_costs [] (item_layout (item_layouts s) (get_or items 0 0)) n.type n.copies op).latency
+    (plain_part s.budget (op_costs [] (item_layout (item_layouts s) (unwrap_or (slice_get items 0) 0)) n.type n.copies op).latency
     (streams_of (map (item_layout (item_layouts s)) items)) (stream_of n.type)
     (op_words known (map (item_layout (item_layouts s)) items) n.type op)) given y
     → IsBuilt new rst at (node_part known (plain_costs s n).latency s n) args y
 wire_built known s n items op new rst at args given y eo ea eg nets law =
     let P : StOpTree → List ℕ → List (List NetId) → Type 0 = λ o xs bundles.
     KeepsLaw new.cells rst at
-    (plain_part s.budget (op_costs [] (item_layout (item_layouts s) (get_or xs 0 0)) n.type n.copies o).latency
+    (plain_part s.budget (op_costs [] (item_layout (item_layouts s) (unwrap_or (slice_get xs 0) 0)) n.type n.copies o).latency
     (streams_of (map (item_layout (item_layouts s)) xs)) (stream_of n.type)
     (op_words known (map (item_layout (item_layouts s)) xs) n.type o)) bundles y in
     record {

@@ -2,7 +2,8 @@
 use Rattle.std.proofs.Common.{ℕ, zero, suc, ◌≡◌, ◌+◌, ◌-◌, ◌*◌, ◌/◌, ◌%◌, ◌<◌, ◌≤◌, inl, inr, List, [], ◌∷◌, ◌++◌, length, length-append, Some, slice_get, option_map, arith, refl, sym, ap, ◌∙◌}
 use Rattle.std.proofs.lemmas.Nat.{div_below, mod_below, div-add-mod'}
 use Rattle.std.proofs.lemmas.Bool.{cases_lt}
-use Rattle.std.proofs.lemmas.Option.{get_or_from_slice_get, slice_get_within}
+use Rattle.std.proofs.lemmas.Option.{slice_get_within}
+use Rattle.std.specs.Prelude.{unwrap_or}
 use Rattle.ae_word.specs.AtomTree.{WordKind, atom_kinds}
 use Rattle.ae_word.proofs.Sizes.{length-atom_kinds}
 use Rattle.ae_netlist.specs.declared.cell.NetId.{NetId}
@@ -33,7 +34,7 @@ on_lanes : (s : StTree) → IsInSize s → AreOnLanes (lanes s) (slots s)
 on_lanes s size = record {
   each = λ e w found.
       let low : e < st_atoms s = omega (arith, slice_get_within (slots s) e w found, length-slots s) in
-      let is : slot_of s e ≡ w = get_or_from_slice_get (slots s) e w (record { clock = 0; lane = 0 }) found in
+      let is : slot_of s e ≡ w = ap (λ o. unwrap_or o (record { clock = 0; lane = 0 })) found in
       rw is at (slot_below s size.lengths e low).1;
 }
 

@@ -1,5 +1,5 @@
 -- A node as a part of a circuit.
-use Rattle.std.specs.Prelude.{◌≡◌, ℕ, ◌*◌, ◌<◌, ◌≤◌, List, [], length, map, Some, slice_get, get_or}
+use Rattle.std.specs.Prelude.{◌≡◌, ℕ, ◌*◌, ◌<◌, ◌≤◌, List, [], length, map, Some, slice_get, get_or, unwrap_or}
 use Rattle.ae_sttype.specs.StTree.{StTree, lanes, element_words}
 use Rattle.ae_netlist.specs.declared.cell.NetId.{NetId}
 use Rattle.ae_netlist.specs.declared.cell.SizedCell.{SizedCell}
@@ -90,4 +90,5 @@ pub record IsOpPart (known : List Callee) (budget copies : ℕ) (args : List StT
 
 abbrev pub IsNodePart : (known : List Callee) → StFuncTree → StNodeTree → Part → Type 0
 IsNodePart known s n p =
-    IsOpPart known s.budget n.copies (arguments_of s n) (item_layout (item_layouts s) (get_or n.args 0 0)) n.type n.op p
+    IsOpPart known s.budget n.copies (arguments_of s n)
+    (item_layout (item_layouts s) (unwrap_or (slice_get n.args 0) 0)) n.type n.op p

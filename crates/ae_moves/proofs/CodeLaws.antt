@@ -1,12 +1,13 @@
 -- What the code finds in layouts and origins.
 use Rattle.std.proofs.Common.{ℕ, ◌≡◌, ◌+◌, ◌-◌, ◌*◌, ◌/◌, ◌%◌, ◌<◌, ◌≤◌, max, inl, inr, List, ◌∷◌, ◌++◌, [], length, map, sum_by, Some, slice_get, get_or, arith, refl, sym, ap, ◌∙◌}
 use Rattle.std.specs.List.{range_with_len}
+use Rattle.std.specs.Prelude.{unwrap_or}
 use Rattle.std.proofs.lemmas.Bool.{cases_eq}
 use Rattle.std.proofs.lemmas.List.{length-map, map-append}
 use Rattle.std.proofs.lemmas.List.FromFn.{map-range_with_len_more}
 use Rattle.std.proofs.lemmas.List.Sums.{fold-append}
 use Rattle.std.proofs.lemmas.Nat.{div_below}
-use Rattle.std.proofs.lemmas.Option.{slice_get_within, slice_get-get_or, get_or_from_slice_get}
+use Rattle.std.proofs.lemmas.Option.{slice_get_within, slice_get-get_or}
 use Rattle.ae_sttype.specs.declared.st_type.StType.{StType}
 use Rattle.ae_sttype.specs.declared.st_type.Slot.{Slot}
 use Rattle.ae_sttype.specs.StTree.{StTree, atom, sseq, lanes, st_atoms, st_tree, element_words}
@@ -36,7 +37,7 @@ input_below ins i e j width h = let l : i < length (map st_tree ins) = slice_get
 pub lane_below : (s : StTree) (slot : Slot) (e j width : ℕ) → IsInSize s → e < st_atoms s → slice_get (slots s) e ≡ Some slot → width_at s j ≡ Some width
     → slot.lane * element_words s + j < columns_of s
 lane_below s slot e j width size l found wide =
-    let is : slot_of s e ≡ slot = get_or_from_slice_get (slots s) e slot (record { clock = 0; lane = 0 }) found in
+    let is : slot_of s e ≡ slot = ap (λ o. unwrap_or o (record { clock = 0; lane = 0 })) found in
     let lane : slot.lane < lanes s = rw is at (slot_below s size.lengths e l).1 in
     in_row slot.lane j (lanes s) (element_words s) lane (word_below s j width wide)
 
@@ -44,17 +45,17 @@ pub source_is : (ins : List StType) (i e j first column : ℕ) (r : StType) (slo
     → slice_get (slots (st_tree r)) e ≡ Some slot → first ≡ first_column (map st_tree ins) i → column ≡ slot.lane * element_words (st_tree r) + j
     → place slot.clock (first + column) ≡ source_of (map st_tree ins) (from_input i e j)
 source_is ins i e j first column r slot found at ef ec =
-    let is : get_or (map st_tree ins) i (sseq 0 (atom (unsigned_word 1))) ≡ st_tree r = get_or_from_slice_get (map st_tree ins) i (st_tree r)
-    (sseq 0 (atom (unsigned_word 1))) (get_mapped st_tree ins i r found) in
-    let so : slot_of (st_tree r) e ≡ slot = get_or_from_slice_get (slots (st_tree r)) e slot (record { clock = 0; lane = 0 }) at in
+    let is : unwrap_or (slice_get (map st_tree ins) i) (sseq 0 (atom (unsigned_word 1))) ≡ st_tree r =
+    ap (λ o. unwrap_or o (sseq 0 (atom (unsigned_word 1)))) (get_mapped st_tree ins i r found) in
+    let so : slot_of (st_tree r) e ≡ slot = ap (λ o. unwrap_or o (record { clock = 0; lane = 0 })) at in
     rw (is, so, ef, ec) refl
 
 pub lead_is : (ins : List StType) (i e j c : ℕ) (r : StType) (slot : Slot) → slice_get ins i ≡ Some r → slice_get (slots (st_tree r)) e ≡ Some slot
     → slot.clock - c ≡ lead_from c (source_of (map st_tree ins) (from_input i e j))
 lead_is ins i e j c r slot found at =
-    let is : get_or (map st_tree ins) i (sseq 0 (atom (unsigned_word 1))) ≡ st_tree r = get_or_from_slice_get (map st_tree ins) i (st_tree r)
-    (sseq 0 (atom (unsigned_word 1))) (get_mapped st_tree ins i r found) in
-    let so : slot_of (st_tree r) e ≡ slot = get_or_from_slice_get (slots (st_tree r)) e slot (record { clock = 0; lane = 0 }) at in
+    let is : unwrap_or (slice_get (map st_tree ins) i) (sseq 0 (atom (unsigned_word 1))) ≡ st_tree r =
+    ap (λ o. unwrap_or o (sseq 0 (atom (unsigned_word 1)))) (get_mapped st_tree ins i r found) in
+    let so : slot_of (st_tree r) e ≡ slot = ap (λ o. unwrap_or o (record { clock = 0; lane = 0 })) at in
     rw (is, so) refl
 
 pub first_room : (ins : List StType) (i c : ℕ) (r : StType) → slice_get ins i ≡ Some r → c < columns_of (st_tree r)
@@ -75,8 +76,7 @@ there_at ins out source o d h l =
     let x = origin_at (record { ins = ins; out = out; origins = map origin_tree source }) o h (omega arith) in
     let at : slice_get (map origin_tree source) o ≡ Some (origin_tree (get_or source o d)) = get_mapped origin_tree source o (get_or source o d)
     (slice_get-get_or source o d l) in
-    let is : get_or (map origin_tree source) o (fixed 0) ≡ origin_tree (get_or source o d) = get_or_from_slice_get (map origin_tree source) o
-    (origin_tree (get_or source o d)) (fixed 0) at in
+    let is : unwrap_or (slice_get (map origin_tree source) o) (fixed 0) ≡ origin_tree (get_or source o d) = ap (λ o. unwrap_or o (fixed 0)) at in
     (x.0, rw is at x.2)
 
 pub words_below : (ins : List StTree) (out : StTree) (source : List Origin) (o : ℕ)
@@ -110,8 +110,7 @@ pub trips_more : (ins : List StTree) (out : StTree) (source : List Origin) (o : 
 trips_more ins out source o d trips t h l ec eq es =
     let at : slice_get (map origin_tree source) o ≡ Some (origin_tree (get_or source o d)) = get_mapped origin_tree source o (get_or source o d)
     (slice_get-get_or source o d l) in
-    let is : get_or (map origin_tree source) o (fixed 0) ≡ origin_tree (get_or source o d) = get_or_from_slice_get (map origin_tree source) o
-    (origin_tree (get_or source o d)) (fixed 0) at in
+    let is : unwrap_or (slice_get (map origin_tree source) o) (fixed 0) ≡ origin_tree (get_or source o d) = ap (λ o. unwrap_or o (fixed 0)) at in
     let same : trip_tree t ≡ trip_number ins out (map origin_tree source) o = trip_same (trip_tree t) (trip_number ins out (map origin_tree source) o) ec eq
     (es ∙ ap (source_of ins) (sym is)) in
     map-append trip_tree trips (t ∷ []) ∙ (ap (λ ts. ts ++ trip_tree t ∷ []) h ∙
@@ -134,8 +133,7 @@ pub latency_more : (ins : List StTree) (out : StTree) (source : List Origin) (o 
 latency_more ins out source o most lead now d h l el en =
     let at : slice_get (map origin_tree source) o ≡ Some (origin_tree (get_or source o d)) = get_mapped origin_tree source o (get_or source o d)
     (slice_get-get_or source o d l) in
-    let is : get_or (map origin_tree source) o (fixed 0) ≡ origin_tree (get_or source o d) = get_or_from_slice_get (map origin_tree source) o
-    (origin_tree (get_or source o d)) (fixed 0) at in
+    let is : unwrap_or (slice_get (map origin_tree source) o) (fixed 0) ≡ origin_tree (get_or source o d) = ap (λ o. unwrap_or o (fixed 0)) at in
     let f : TripTree → ℕ = λ (v : TripTree). lead_from v.clock v.source in
     let here : lead ≡ f (trip_number ins out (map origin_tree source) o) = el ∙
     ap (λ x. lead_from (slot_number out (o / element_words out)).clock (source_of ins x)) (sym is) in
@@ -162,7 +160,7 @@ below_one P k n h here l = elim (cases_eq n k) [
 pub slot_of_word : (s : StTree) (o w : ℕ) (slot : Slot) → w ≡ element_words s → slice_get (slots s) (o / w) ≡ Some slot →
     slot ≡ slot_number s (o / element_words s)
 slot_of_word s o w slot e found =
-    sym (get_or_from_slice_get (slots s) (o / w) slot (record { clock = 0; lane = 0 }) found) ∙ ap (λ k. slot_number s (o / k)) e
+    sym (ap (λ o. unwrap_or o (record { clock = 0; lane = 0 })) found) ∙ ap (λ k. slot_number s (o / k)) e
 
 pub element_below : (s : StTree) (o w : ℕ) → w ≡ element_words s → o < st_atoms s * element_words s → o / w < st_atoms s
 element_below s o w e h = rw e (div_below o (element_words s) (st_atoms s) (omega (arith, words_pos s)) h)

@@ -1,12 +1,13 @@
 -- The words of a move between layouts in size.
 use Rattle.std.proofs.Common.{ℕ, suc, ◌≡◌, ◌+◌, ◌*◌, ◌/◌, ◌%◌, ◌<◌, ◌≤◌, max, fold, inl, inr, false, List, ◌∷◌, [], length, map, sum_by, Some, None, slice_get, get_or, option_map, arith, refl, sym, ap, ◌∙◌}
 use Rattle.std.specs.List.{range_with_len}
+use Rattle.std.specs.Prelude.{unwrap_or}
 use Rattle.std.proofs.Math.Nat.{mul-le-mul_right}
 use Rattle.std.proofs.lemmas.List.{length-map}
 use Rattle.std.proofs.lemmas.List.FromFn.{length-map-range_with_len}
 use Rattle.std.proofs.lemmas.Bool.{cases_lt}
 use Rattle.std.proofs.lemmas.Nat.{mod_below}
-use Rattle.std.proofs.lemmas.Option.{slice_get_past, slice_get_within, slice_get-get_or, get_or_from_slice_get}
+use Rattle.std.proofs.lemmas.Option.{slice_get_past, slice_get_within, slice_get-get_or, unwrap_or-slice_get}
 use Rattle.ae_word.specs.AtomTree.{WordKind, atom_kinds, unsigned_word}
 use Rattle.ae_word.proofs.Sizes.{length-atom_kinds}
 use Rattle.ae_seqtype.proofs.Sizes.{one-atom_words}
@@ -75,13 +76,13 @@ InTree n (constant w) = Unit {0}
 pub origin_in : (ins : List StTree) (width : ℕ) (o : OriginTree) → ((i : ℕ) (s : StTree) → slice_get ins i ≡ Some s → IsInSize s) → HasOrigin ins width o
     → InTree (sum_by columns_of ins) (source_of ins o)
 origin_in ins width (from_input i e j) sizes h =
-    let is : get_or ins i (sseq 0 (atom (unsigned_word 1))) ≡ h.0 = get_or_from_slice_get ins i h.0 (sseq 0 (atom (unsigned_word 1))) h.1 in
+    let is : unwrap_or (slice_get ins i) (sseq 0 (atom (unsigned_word 1))) ≡ h.0 = ap (λ o. unwrap_or o (sseq 0 (atom (unsigned_word 1)))) h.1 in
     rw is (first_below ins i (column_number h.0 e j) h.0 h.1 (column_below h.0 (sizes i h.0 h.1) e j h.2 (word_below h.0 j width h.3)))
 origin_in ins width (fixed w) sizes h = tt
 
 -- the origin of an output word
 pub origin_at : (m : Move) (n : ℕ) → IsMove m → n < st_atoms m.out * element_words m.out
-    → (width : ℕ) × (width_at m.out (n % element_words m.out) ≡ Some width) × HasOrigin m.ins width (get_or m.origins n (fixed 0))
+    → (width : ℕ) × (width_at m.out (n % element_words m.out) ≡ Some width) × HasOrigin m.ins width (unwrap_or (slice_get m.origins n) (fixed 0))
 origin_at m n h l =
     let w : ℕ = element_words m.out in
     let j : n % w < w = mod_below n w (words_pos m.out) in
@@ -90,7 +91,8 @@ origin_at m n h l =
     let k : WordKind = get_or kinds (n % w) none in
     let there : slice_get kinds (n % w) ≡ Some k = slice_get-get_or kinds (n % w) none (omega (arith, length-atom_kinds (element_atom m.out))) in
     let wide : width_at m.out (n % w) ≡ Some k.width = ap (option_map (λ (x : WordKind). x.width)) there in
-    let found : slice_get m.origins n ≡ Some (get_or m.origins n (fixed 0)) = slice_get-get_or m.origins n (fixed 0) (omega (arith, h.count)) in
+    let found : slice_get m.origins n ≡ Some (unwrap_or (slice_get m.origins n) (fixed 0)) =
+    rw (unwrap_or-slice_get m.origins n (fixed 0)) (slice_get-get_or m.origins n (fixed 0) (omega (arith, h.count))) in
     (k.width, wide, h.origins n k.width _ found wide)
 
 pub lead_le : {X : Type 0} (f : X → ℕ) (a m : ℕ) (xs : List X) → a ≤ m → ((x : X) (n : ℕ) → slice_get xs n ≡ Some x → f x ≤ m)
@@ -100,7 +102,7 @@ lead_le f a m (x ∷ xs) l h = let here : f x ≤ m = h x 0 refl in lead_le f (m
 
 pub source_lead : (m : Move) (c width : ℕ) (o : OriginTree) → IsMove m → HasOrigin m.ins width o → lead_from c (source_of m.ins o) ≤ time m.out
 source_lead m c width (from_input i e j) h o =
-    let is : get_or m.ins i (sseq 0 (atom (unsigned_word 1))) ≡ o.0 = get_or_from_slice_get m.ins i o.0 (sseq 0 (atom (unsigned_word 1))) o.1 in
+    let is : unwrap_or (slice_get m.ins i) (sseq 0 (atom (unsigned_word 1))) ≡ o.0 = ap (λ o. unwrap_or o (sseq 0 (atom (unsigned_word 1)))) o.1 in
     let l : (slot_of o.0 e).clock < time o.0 = (slot_below o.0 (h.types i o.0 o.1).0.lengths e o.2).0 in
     let t : time o.0 ≡ time m.out = (h.types i o.0 o.1).1 in
     rw is (omega arith)
@@ -119,7 +121,7 @@ latency_small m h =
     (rw z at (range_get 0 all n small)) in
     let same : trip_number m.ins m.out m.origins n ≡ x = cc in
     let o = origin_at m n h small in
-    rw (← same) (source_lead m (slot_of m.out (n / element_words m.out)).clock o.0 (get_or m.origins n (fixed 0)) h o.2))) in
+    rw (← same) (source_lead m (slot_of m.out (n / element_words m.out)).clock o.0 (unwrap_or (slice_get m.origins n) (fixed 0)) h o.2))) in
     omega (arith, h.out.in_time)
 
 pub columns_small : (s : StTree) → IsInSize s → columns_of s ≤ 16384

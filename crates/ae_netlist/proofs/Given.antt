@@ -16,6 +16,7 @@ use Rattle.ae_netlist.specs.Runs.{Clock, no_clock, word_at, store_at, CellHolds,
 use Rattle.ae_netlist.specs.Rows.{AreInputs, Firsts, AreFirsts, filled, IsRunWith, HasOneRunWith}
 use Rattle.ae_netlist.proofs.Counting.{filter_at}
 use Rattle.ae_netlist.proofs.NextClock.{in_cell}
+use Rattle.ae_netlist.proofs.ReadAt.{store_got, word_got}
 use Rattle.ae_netlist.proofs.OneRun.{one_run}
 use Rattle.ae_netlist.proofs.Shapes.{each_shaped, each_holds}
 
@@ -62,13 +63,13 @@ clock_is cells firsts rows t b = get_or-map (given_clock cells firsts) rows t []
 
 word_given : (cells : List SizedCell) (firsts : Firsts) (rows : List (List ℕ)) (t n : ℕ) (sized : SizedCell) → t < length rows → slice_get cells n ≡ Some sized
     → word_at (given cells firsts rows) t n ≡ given_word cells firsts (get_or rows t []) n sized.cell
-unfolding word_at
-word_given cells firsts rows t n sized b h = rw (clock_is cells firsts rows t b) (word_is cells firsts (get_or rows t []) n sized h)
+word_given cells firsts rows t n sized b h =
+    rw (word_got (given cells firsts rows) t n, clock_is cells firsts rows t b) (word_is cells firsts (get_or rows t []) n sized h)
 
 store_given : (cells : List SizedCell) (firsts : Firsts) (rows : List (List ℕ)) (t n : ℕ) (sized : SizedCell) → t < length rows → slice_get cells n ≡ Some sized
     → store_at (given cells firsts rows) t n ≡ given_store cells firsts n sized.cell
-unfolding store_at
-store_given cells firsts rows t n sized b h = rw (clock_is cells firsts rows t b) (store_is cells firsts (get_or rows t []) n sized h)
+store_given cells firsts rows t n sized b h =
+    rw (store_got (given cells firsts rows) t n, clock_is cells firsts rows t b) (store_is cells firsts (get_or rows t []) n sized h)
 
 -- such clocks hold what their nets may hold
 pub holds : (cells : List SizedCell) (firsts : Firsts) (row : List ℕ) (n width : ℕ) (cell : Cell) → AreInputs cells row → AreFirsts cells firsts

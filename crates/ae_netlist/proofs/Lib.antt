@@ -1,10 +1,12 @@
 pub mod Gets
+pub mod ReadAt
 pub mod FirstNets
 pub mod Growing
 pub mod Counting
 pub mod Settled
 pub mod Fits
 pub mod Shapes
+pub mod OrElse
 pub mod NextClock
 pub mod OneRun
 pub mod Carried

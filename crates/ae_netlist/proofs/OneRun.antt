@@ -1,13 +1,14 @@
 -- For any inputs and first words there is exactly one run.
 use Rattle.std.proofs.Common.{ℕ, zero, suc, ◌≡◌, ◌+◌, ◌<◌, List, [], ◌∷◌, length, Option, Some, None, slice_get, get_or, arith, refl, ap, sym, ◌∙◌, add-one}
 use Rattle.std.proofs.lemmas.List.{ext_get_or}
-use Rattle.std.proofs.lemmas.Option.{slice_get-get_or}
+use Rattle.std.proofs.lemmas.Option.{slice_get-get_or, unwrap_or-slice_get}
 use Rattle.ae_netlist.specs.declared.cell.Cell.{Cell}
 use Rattle.ae_netlist.specs.declared.cell.Cell.TheVariants.{Input, Const, Op, Reg, Mem, Peek}
 use Rattle.ae_netlist.specs.declared.cell.SizedCell.{SizedCell}
-use Rattle.ae_netlist.specs.Circuit.{IsFormed}
-use Rattle.ae_netlist.specs.Runs.{Clock, no_clock, word_at, store_at, CellHolds, Settles, Steps, IsShaped, AgreesAt, IsRunOn, HasOneRun}
+use Rattle.ae_netlist.specs.Circuit.{IsFormed, operand}
+use Rattle.ae_netlist.specs.Runs.{Clock, no_clock, word_at, CellHolds, Settles, Steps, IsShaped, AgreesAt, IsRunOn, HasOneRun}
 use Rattle.ae_netlist.proofs.Gets.{get_from_take}
+use Rattle.ae_netlist.proofs.ReadAt.{store_got, word_got}
 use Rattle.ae_netlist.proofs.Settled.{cell_word, IsSettled, settled_once}
 use Rattle.ae_netlist.proofs.NextClock.{free_word, stepped_store, in_cell, free_in, store_in, next_clock, IsShapedIfAny, IsNext, next_at, next_shaped}
 use Rattle.ae_netlist.proofs.Shapes.{clock_shaped, each_shaped, cell_holds}
@@ -81,13 +82,13 @@ goes_at cells given run t n sized formed h b found =
 -- so it settles
 settles_at : (cells : List SizedCell) (given run : List Clock) (t n width : ℕ) (cell : Cell) → IsFormed cells → GoesOn cells None given run → t < length given
     → slice_get cells n ≡ Some (record { width = width; cell = cell }) → Settles cells run t n cell
-unfolding word_at store_at
 settles_at cells given run t n width (Input port) formed h b found = tt
 settles_at cells given run t n width (Reg next) formed h b found = tt
 settles_at cells given run t n width (Mem depth at next enable) formed h b found = tt
 settles_at cells given run t n width (Const k) formed h b found =
-    ((goes_at cells given run t n (record { width = width; cell = Const k }) formed h b found).word)
+    word_got run t n ∙ (goes_at cells given run t n (record { width = width; cell = Const k }) formed h b found).word
 settles_at cells given run t n width (Op op args) formed h b found =
+    rw (word_got run t n, word_got run t (operand args 0), word_got run t (operand args 1), word_got run t (operand args 2))
     (goes_at cells given run t n (record { width = width; cell = Op op args }) formed h b found).word
 settles_at cells given run t n width (Peek mem at) formed h b found =
     let fits = (formed.each n (record { width = width; cell = Peek mem at }) found).cell in
@@ -97,14 +98,18 @@ settles_at cells given run t n width (Peek mem at) formed h b found =
     let g : Clock = get_or given t no_clock in
     let here = goes_at cells given run t n (record { width = width; cell = Peek mem at }) formed h b found in
     let there = goes_at cells given run t mem.0 kept formed h b m in
-    here.word
+    rw (
+      word_got run t n,
+      word_got run t at.0,
+      store_got run t mem.0,
+      unwrap_or-slice_get (get_or (get_or run t no_clock).stores mem.0 []) (get_or (get_or run t no_clock).words at.0 0) 0,
+    ) (here.word
     ∙ ap (λ (s : List ℕ). get_or s (get_or (get_or run t no_clock).words at.0 0) 0)
-    (ap (λ (o : Option SizedCell). in_cell o [] (stepped_store prev g mem.0)) m ∙ sym there.store)
+    (ap (λ (o : Option SizedCell). in_cell o [] (stepped_store prev g mem.0)) m ∙ sym there.store))
 
 -- and it steps
 steps_at : (cells : List SizedCell) (given run : List Clock) (t n width : ℕ) (cell : Cell) → IsFormed cells → GoesOn cells None given run
     → t + 1 < length given → slice_get cells n ≡ Some (record { width = width; cell = cell }) → Steps run t n cell
-unfolding word_at store_at
 steps_at cells given run t n width (Input port) formed h b found = tt
 steps_at cells given run t n width (Const k) formed h b found = tt
 steps_at cells given run t n width (Op op args) formed h b found = tt
@@ -112,30 +117,33 @@ steps_at cells given run t n width (Peek mem at) formed h b found = tt
 steps_at cells given run t n width (Reg next) formed h b found =
     let here = goes_at cells given run (suc t) n (record { width = width; cell = Reg next }) formed h (omega arith) found in
     let g : Clock = get_or given (suc t) no_clock in
-    rw add-one (here.word ∙ ap (λ (o : Option SizedCell). in_cell o 0 (free_word (Some (get_or run t no_clock)) g n)) found)
+    rw (add-one, word_got run (suc t) n, word_got run t next.0)
+    (here.word ∙ ap (λ (o : Option SizedCell). in_cell o 0 (free_word (Some (get_or run t no_clock)) g n)) found)
 steps_at cells given run t n width (Mem depth at next enable) formed h b found =
     let here = goes_at cells given run (suc t) n (record { width = width; cell = Mem depth at next enable }) formed h (omega arith) found in
-    rw add-one (here.store)
+    rw (add-one, store_got run (suc t) n, store_got run t n, word_got run t enable.0, word_got run t at.0, word_got run t next.0) here.store
 
 agrees_at : (cells : List SizedCell) (given run : List Clock) (t n width : ℕ) (cell : Cell) → IsFormed cells → GoesOn cells None given run → t < length given
     → slice_get cells n ≡ Some (record { width = width; cell = cell }) → AgreesAt given run t n cell
-unfolding word_at store_at
 agrees_at cells given run t n width (Const k) formed h b found = tt
 agrees_at cells given run t n width (Op op args) formed h b found = tt
 agrees_at cells given run t n width (Peek mem at) formed h b found = tt
 agrees_at cells given run zero n width (Input port) formed h b found =
     let here = goes_at cells given run zero n (record { width = width; cell = Input port }) formed h b found in
-    here.word ∙ ap (λ (o : Option SizedCell). in_cell o 0 (free_word None (get_or given zero no_clock) n)) found
+    rw (word_got run zero n, word_got given zero n) (here.word ∙
+    ap (λ (o : Option SizedCell). in_cell o 0 (free_word None (get_or given zero no_clock) n)) found)
 agrees_at cells given run (suc t) n width (Input port) formed h b found =
     let here = goes_at cells given run (suc t) n (record { width = width; cell = Input port }) formed h b found in
-    here.word ∙ ap (λ (o : Option SizedCell). in_cell o 0 (free_word (Some (get_or run t no_clock)) (get_or given (suc t) no_clock) n)) found
+    rw (word_got run (suc t) n, word_got given (suc t) n)
+    (here.word ∙ ap (λ (o : Option SizedCell). in_cell o 0 (free_word (Some (get_or run t no_clock)) (get_or given (suc t) no_clock) n)) found)
 agrees_at cells given run zero n width (Reg next) formed h b found = λ e.
     let here = goes_at cells given run zero n (record { width = width; cell = Reg next }) formed h b found in
-    here.word ∙ ap (λ (o : Option SizedCell). in_cell o 0 (free_word None (get_or given zero no_clock) n)) found
+    rw (word_got run zero n, word_got given zero n) (here.word ∙
+    ap (λ (o : Option SizedCell). in_cell o 0 (free_word None (get_or given zero no_clock) n)) found)
 agrees_at cells given run (suc t) n width (Reg next) formed h b found = λ e. absurd (omega arith)
 agrees_at cells given run zero n width (Mem depth at next enable) formed h b found = λ e.
     let here = goes_at cells given run zero n (record { width = width; cell = Mem depth at next enable }) formed h b found in
-    here.store
+    rw (store_got run zero n, store_got given zero n) here.store
 agrees_at cells given run (suc t) n width (Mem depth at next enable) formed h b found = λ e. absurd (omega arith)
 
 made_run : (cells : List SizedCell) (given : List Clock) → IsFormed cells → IsGiven cells given → IsRunOn cells given (run_on cells None given)
@@ -157,13 +165,12 @@ made_run cells given formed shaped =
 free_is : (cells : List SizedCell) (given run : List Clock) (t n width : ℕ) (cell : Cell) → IsRunOn cells given run → t < length given
     → slice_get cells n ≡ Some (record { width = width; cell = cell }) → IsFree cell
     → word_at run t n ≡ free_word (before None run t) (get_or given t no_clock) n cell
-unfolding word_at store_at
-free_is cells given run zero n width (Input port) r b found f = r.agrees.same zero n _ b found
-free_is cells given run (suc t) n width (Input port) r b found f = r.agrees.same (suc t) n _ b found
-free_is cells given run zero n width (Reg next) r b found f = r.agrees.same zero n _ b found refl
+free_is cells given run zero n width (Input port) r b found f = r.agrees.same zero n _ b found ∙ word_got given zero n
+free_is cells given run (suc t) n width (Input port) r b found f = r.agrees.same (suc t) n _ b found ∙ word_got given (suc t) n
+free_is cells given run zero n width (Reg next) r b found f = r.agrees.same zero n _ b found refl ∙ word_got given zero n
 free_is cells given run (suc t) n width (Reg next) r b found f =
     let l : t + 1 < length run = (let e : length run ≡ length given = r.long in omega arith) in
-    rw add-one at (r.runs.steps t n (record { width = width; cell = Reg next }) l found)
+    (rw add-one at (r.runs.steps t n (record { width = width; cell = Reg next }) l found)) ∙ word_got run t next.0
 free_is cells given run t n width (Const k) r b found f = absurd f
 free_is cells given run t n width (Op op args) r b found f = absurd f
 free_is cells given run t n width (Mem depth at next enable) r b found f = absurd f
@@ -178,13 +185,13 @@ shape_at cells given run t n sized r b found =
 store_is : (cells : List SizedCell) (given run : List Clock) (t n width : ℕ) (cell : Cell) → IsGiven cells given → IsRunOn cells given run → t < length given
     → slice_get cells n ≡ Some (record { width = width; cell = cell })
     → get_or (get_or run t no_clock).stores n [] ≡ stepped_store (before None run t) (get_or given t no_clock) n cell
-unfolding word_at store_at
 store_is cells given run zero n width (Input port) s r b found = (shape_at cells given run zero n _ r b found).1 ∙ sym (cell_holds (s zero b) n _ found).1
 store_is cells given run zero n width (Const k) s r b found = (shape_at cells given run zero n _ r b found).1 ∙ sym (cell_holds (s zero b) n _ found).1
 store_is cells given run zero n width (Op op args) s r b found = (shape_at cells given run zero n _ r b found).1 ∙ sym (cell_holds (s zero b) n _ found).1
 store_is cells given run zero n width (Reg next) s r b found = (shape_at cells given run zero n _ r b found).1 ∙ sym (cell_holds (s zero b) n _ found).1
 store_is cells given run zero n width (Peek mem at) s r b found = (shape_at cells given run zero n _ r b found).1 ∙ sym (cell_holds (s zero b) n _ found).1
-store_is cells given run zero n width (Mem depth at next enable) s r b found = r.agrees.same zero n _ b found refl
+store_is cells given run zero n width (Mem depth at next enable) s r b found =
+    sym (store_got run zero n) ∙ (r.agrees.same zero n _ b found refl ∙ store_got given zero n)
 store_is cells given run (suc t) n width (Input port) s r b found = (shape_at cells given run (suc t) n _ r b found).1
 store_is cells given run (suc t) n width (Const k) s r b found = (shape_at cells given run (suc t) n _ r b found).1
 store_is cells given run (suc t) n width (Op op args) s r b found = (shape_at cells given run (suc t) n _ r b found).1
@@ -192,24 +199,25 @@ store_is cells given run (suc t) n width (Reg next) s r b found = (shape_at cell
 store_is cells given run (suc t) n width (Peek mem at) s r b found = (shape_at cells given run (suc t) n _ r b found).1
 store_is cells given run (suc t) n width (Mem depth at next enable) s r b found =
     let l : t + 1 < length run = (let e : length run ≡ length given = r.long in omega arith) in
-    rw add-one at (r.runs.steps t n (record { width = width; cell = Mem depth at next enable }) l found)
+    rw (add-one, store_got run (suc t) n, store_got run t n, word_got run t enable.0, word_got run t at.0, word_got run t next.0) at
+    (r.runs.steps t n (record { width = width; cell = Mem depth at next enable }) l found)
 
 -- a run meets, in each clock, the equations by which the next clock is made
 word_is : (cells : List SizedCell) (given run : List Clock) (t n width : ℕ) (cell : Cell) → IsFormed cells → IsGiven cells given → IsRunOn cells given run
     → t < length given → slice_get cells n ≡ Some (record { width = width; cell = cell })
     → get_or (get_or run t no_clock).words n 0 ≡ cell_word cells (free_in cells (before None run t) (get_or given t no_clock))
     (store_in cells (before None run t) (get_or given t no_clock)) (get_or run t no_clock).words n cell
-unfolding word_at store_at
 word_is cells given run t n width (Input port) formed s r b found =
-    free_is cells given run t n width (Input port) r b found tt ∙
+    sym (word_got run t n) ∙ free_is cells given run t n width (Input port) r b found tt ∙
     ap (λ (o : Option SizedCell). in_cell o 0 (free_word (before None run t) (get_or given t no_clock) n)) (sym found)
 word_is cells given run t n width (Reg next) formed s r b found =
-    free_is cells given run t n width (Reg next) r b found tt ∙
+    sym (word_got run t n) ∙ free_is cells given run t n width (Reg next) r b found tt ∙
     ap (λ (o : Option SizedCell). in_cell o 0 (free_word (before None run t) (get_or given t no_clock) n)) (sym found)
 word_is cells given run t n width (Const k) formed s r b found =
-    r.runs.settles t n (record { width = width; cell = Const k }) (let e : length run ≡ length given = r.long in omega arith) found
+    sym (word_got run t n) ∙ r.runs.settles t n (record { width = width; cell = Const k }) (let e : length run ≡ length given = r.long in omega arith) found
 word_is cells given run t n width (Op op args) formed s r b found =
-    r.runs.settles t n (record { width = width; cell = Op op args }) (let e : length run ≡ length given = r.long in omega arith) found
+    rw (word_got run t n, word_got run t (operand args 0), word_got run t (operand args 1), word_got run t (operand args 2)) at
+    (r.runs.settles t n (record { width = width; cell = Op op args }) (let e : length run ≡ length given = r.long in omega arith) found)
 word_is cells given run t n width (Mem depth at next enable) formed s r b found = (shape_at cells given run t n _ r b found).0
 word_is cells given run t n width (Peek mem at) formed s r b found =
     let fits = (formed.each n (record { width = width; cell = Peek mem at }) found).cell in
@@ -218,7 +226,13 @@ word_is cells given run t n width (Peek mem at) formed s r b found =
     let prev : Option Clock = before None run t in
     let g : Clock = get_or given t no_clock in
     let l : t < length run = (let e : length run ≡ length given = r.long in omega arith) in
-    r.runs.settles t n (record { width = width; cell = Peek mem at }) l found
+    (rw (
+      word_got run t n,
+      word_got run t at.0,
+      store_got run t mem.0,
+      unwrap_or-slice_get (get_or (get_or run t no_clock).stores mem.0 []) (get_or (get_or run t no_clock).words at.0 0) 0,
+    ) at
+    (r.runs.settles t n (record { width = width; cell = Peek mem at }) l found))
     ∙ ap (λ (x : List ℕ). get_or x (get_or (get_or run t no_clock).words at.0 0) 0)
     (store_is cells given run t mem.0 kept.width kept.cell s r b m ∙ sym (ap (λ (o : Option SizedCell). in_cell o [] (stepped_store prev g mem.0)) m))
 

@@ -1,5 +1,5 @@
 -- A netlist as its sized cells in order; a net is the number of its cell.
-use Rattle.std.specs.Prelude.{◌≡◌, ℕ, ◌<◌, ◌≤◌, ◌^◌, ◌⊎◌, false, List, Option, Some, None, slice_get, get_or, take}
+use Rattle.std.specs.Prelude.{◌≡◌, ℕ, ◌<◌, ◌≤◌, ◌^◌, ◌⊎◌, false, List, Option, Some, None, slice_get, unwrap_or, take}
 use Rattle.ae_word.specs.declared.op.WordOp.{WordOp}
 use Rattle.ae_word.specs.declared.op.WordOp.TheVariants.{Add, Sub, Mul, And, Or, Xor, Not, Min, Max, Eq, Lt, Mux, Shl, Shr, Cast, SLt, SMin, SMax, Sar, SCast}
 use Rattle.ae_word.specs.WordTable.{HasRange, result_width_of, is_signed, row_of}
@@ -89,7 +89,7 @@ pub record IsAddress (cells : List SizedCell) (at depth : ℕ) : Type 0 where
 
 -- operand k of an operator, which has three, so the default is not read
 abbrev pub operand : List NetId → ℕ → ℕ
-operand args k = (get_or args k (record { 0 = 0 })).0
+operand args k = (unwrap_or (slice_get args k) (record { 0 = 0 })).0
 
 -- the operand that has the width at which an operator works: the first, for a choice its first arm
 abbrev pub main_operand : WordOp → List NetId → ℕ

@@ -1,5 +1,5 @@
 -- The runs of a netlist: lists of clocks that meet the equations of its cells, which have no order.
-use Rattle.std.specs.Prelude.{◌≡◌, ℕ, ◌+◌, ◌<◌, ◌≤◌, ◌^◌, ◌==◌, List, [], length, Some, slice_get, slice_set, get_or, All, if◌then◌else◌}
+use Rattle.std.specs.Prelude.{◌≡◌, ℕ, ◌+◌, ◌<◌, ◌≤◌, ◌^◌, ◌==◌, List, [], length, Some, slice_get, slice_set, unwrap_or, All, if◌then◌else◌}
 use Rattle.ae_word.specs.WordTable.{row_of, word_result}
 use Rattle.ae_netlist.specs.declared.cell.Cell.{Cell}
 use Rattle.ae_netlist.specs.declared.cell.Cell.TheVariants.{Input, Const, Op, Reg, Mem, Peek}
@@ -16,11 +16,11 @@ no_clock = record { words = []; stores = [] }
 
 -- the word of a net in a clock of a run; of formed cells no equation reads past the clocks or the nets
 unfoldable pub word_at : List Clock → ℕ → ℕ → ℕ
-word_at run t net = get_or (get_or run t no_clock).words net 0
+word_at run t net = unwrap_or (slice_get (unwrap_or (slice_get run t) no_clock).words net) 0
 
 -- the words of a memory in a clock of a run
 unfoldable pub store_at : List Clock → ℕ → ℕ → List ℕ
-store_at run t net = get_or (get_or run t no_clock).stores net []
+store_at run t net = unwrap_or (slice_get (unwrap_or (slice_get run t) no_clock).stores net) []
 
 -- what a net may hold: a memory one word for each place, and any other net one word
 abbrev pub CellHolds : Cell → ℕ → ℕ → List ℕ → Type 0
@@ -39,7 +39,7 @@ Settles cells run t net (Op op args) =
     word_at run t net ≡ word_result op (width_of cells (operand args (row_of op).main)) (word_at run t (operand args 0)) (word_at run t (operand args 1)) (word_at run t (operand args 2))
 Settles cells run t net (Reg next) = Unit {0}
 Settles cells run t net (Mem depth at next enable) = Unit {0}
-Settles cells run t net (Peek mem at) = word_at run t net ≡ get_or (store_at run t mem.0) (word_at run t at.0) 0
+Settles cells run t net (Peek mem at) = word_at run t net ≡ unwrap_or (slice_get (store_at run t mem.0) (word_at run t at.0)) 0
 
 -- from a clock to the next a register takes its next word, and a memory is written where it is enabled; one that is not connected names itself
 abbrev pub Steps : List Clock → ℕ → ℕ → Cell → Type 0

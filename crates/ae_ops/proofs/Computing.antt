@@ -1,13 +1,15 @@
 -- The cells of one operator, and what their nets hold.
-use Rattle.std.proofs.Common.{ℕ, ◌≡◌, ◌≤◌, false, List, ◌∷◌, [], length, get_or, Result, Ok, Err, OnOk, arith, refl, sym, ap, ◌∙◌}
+use Rattle.std.proofs.Common.{ℕ, ◌≡◌, ◌≤◌, false, List, ◌∷◌, [], length, get_or, Result, Ok, Err, OnOk, arith, refl, sym, ap, ◌∙◌, subst}
+use Rattle.std.specs.Prelude.{IfOk}
 use Rattle.ae_word.specs.declared.op.WordOp.{WordOp}
 use Rattle.ae_word.specs.declared.op.WordOp.TheVariants.{Mux, Shr, Cast, Sar, SCast}
-use Rattle.ae_word.specs.WordTable.{HasRange, arity_of, is_signed, result_width_of}
+use Rattle.ae_word.specs.WordTable.{HasRange, arity_of, is_signed, result_width_of, word_result}
 use Rattle.ae_netlist.specs.declared.cell.NetId.{NetId}
 use Rattle.ae_netlist.specs.declared.cell.SizedCell.{SizedCell}
 use Rattle.ae_netlist.specs.Circuit.{Circuit, IsNet, IsOperation, OperandsAre, main_operand, operand, width_of}
-use Rattle.ae_netlist.specs.Runs.{InEveryRunFrom}
+use Rattle.ae_netlist.specs.Runs.{InEveryRunFrom, word_at}
 use Rattle.ae_netlist.proofs.Growing.{main_is, net_later, net_width}
+use Rattle.ae_netlist.proofs.ReadAt.{operand_got}
 use Rattle.ae_gates.specs.Cells.{Adds, Grows, IsResult}
 use Rattle.ae_ops.specs.Signs.{IsBySign}
 use Rattle.ae_ops.proofs.SignWords.{cast_is, sar_is}
@@ -33,7 +35,18 @@ one_main _ a = refl
 pub pair_operands : (op : WordOp) (P : ℕ → ℕ → Type 0) (args : List NetId) (w : ℕ) → arity_of op ≡ 2 → OperandsAre op P args w
     → P (get_or args 0 (record { 0 = 0 })).0 w × P (get_or args 1 (record { 0 = 0 })).0 w
 pair_operands Mux P args w two h = absurd (omega arith)
-pair_operands _ P args w two h = (h.0, h.1)
+pair_operands _ P args w two h = (subst (λ n. P n w) (operand_got args 0) h.0, subst (λ n. P n w) (operand_got args 1) h.1)
+
+-- the result of an operator on two words that are told apart
+pub two_words : {E : Type 0} (r : Result NetId E) (n : ℕ) (cells : List SizedCell) (op : WordOp) (w : ℕ) (args : List NetId) (a b : NetId)
+    → ((x y z u : ℕ) → word_result op w x y z ≡ word_result op w x y u) → operand args 0 ≡ a.0 → operand args 1 ≡ b.0
+    → IfOk r (λ y. InEveryRunFrom n cells (λ run. IsResult run y.0 op w (a ∷ b ∷ a ∷ [])))
+    → IfOk r (λ y. InEveryRunFrom n cells (λ run. IsResult run y.0 op w args))
+two_words (Ok y) n cells op w args a b third first second h = λ all e run is t l.
+    h all e run is t l
+    ∙ (third (word_at run t a.0) (word_at run t b.0) (word_at run t a.0) (word_at run t (operand args 2))
+    ∙ (λ i. word_result op w (word_at run t (sym first i)) (word_at run t (sym second i)) (word_at run t (operand args 2))))
+two_words (Err e) n cells op w args a b third first second h = tt
 
 -- by the answer of the one call
 pub most_of : {X E : Type 0} (old new : Circuit) (r : Result X E) (most muls : ℕ) → most ≤ 8 → OnOk r (Adds old new most muls)
@@ -41,16 +54,18 @@ pub most_of : {X E : Type 0} (old new : Circuit) (r : Result X E) (most muls : �
 most_of old new (Ok x) most muls l h = adds_most 8 l h
 most_of old new (Err e) most muls l h = tt
 
-pub sar_words : (old new : Circuit) (y : NetId) (op : WordOp) (args : List NetId) (k w : ℕ) → op ≡ Sar k → Grows old new
-    → IsNet old.cells (operand args 0) w
-    → InEveryRunFrom (length old.cells) new.cells (λ run. IsBySign run y.0 (Shr k) w (operand args 0))
+pub sar_words : (old new : Circuit) (y : NetId) (op : WordOp) (args : List NetId) (k w a : ℕ) → op ≡ Sar k → Grows old new
+    → operand args 0 ≡ a → IsNet old.cells a w
+    → InEveryRunFrom (length old.cells) new.cells (λ run. IsBySign run y.0 (Shr k) w a)
     → InEveryRunFrom (length old.cells) new.cells (λ run. IsResult run y.0 op w args)
-sar_words old new y op args k w is g net h =
-    rw is (λ all e run r t l. h all e run r t l ∙ sar_is k w _ 0 0 (held_fits all run t (operand args 0) w r l (e.nets _ _ (net_later g.extends net))))
+sar_words old new y op args k w a is g first net h =
+    rw is (λ all e run r t l. h all e run r t l ∙ (sar_is k w _ 0 0 (held_fits all run t a w r l (e.nets _ _ (net_later g.extends net)))
+    ∙ ap (λ n. word_result (Sar k) w (word_at run t n) 0 0) (sym first)))
 
-pub cast_words : (old new : Circuit) (y : NetId) (op : WordOp) (args : List NetId) (v w : ℕ) → op ≡ SCast v → Grows old new
-    → IsNet old.cells (operand args 0) w
-    → InEveryRunFrom (length old.cells) new.cells (λ run. IsBySign run y.0 (Cast v) w (operand args 0))
+pub cast_words : (old new : Circuit) (y : NetId) (op : WordOp) (args : List NetId) (v w a : ℕ) → op ≡ SCast v → Grows old new
+    → operand args 0 ≡ a → IsNet old.cells a w
+    → InEveryRunFrom (length old.cells) new.cells (λ run. IsBySign run y.0 (Cast v) w a)
     → InEveryRunFrom (length old.cells) new.cells (λ run. IsResult run y.0 op w args)
-cast_words old new y op args v w is g net h =
-    rw is (λ all e run r t l. h all e run r t l ∙ cast_is v w _ 0 0 (held_fits all run t (operand args 0) w r l (e.nets _ _ (net_later g.extends net))))
+cast_words old new y op args v w a is g first net h =
+    rw is (λ all e run r t l. h all e run r t l ∙ (cast_is v w _ 0 0 (held_fits all run t a w r l (e.nets _ _ (net_later g.extends net)))
+    ∙ ap (λ n. word_result (SCast v) w (word_at run t n) 0 0) (sym first)))

@@ -2,7 +2,8 @@
 use Rattle.std.proofs.Common.{ℕ, zero, suc, ◌≡◌, ◌+◌, ◌-◌, ◌*◌, ◌<◌, ◌≤◌, ◌^◌, List, ◌∷◌, [], length, map, Some, slice_get, get_or, arith, refl, sym, ap, ◌∙◌, subst}
 use Rattle.std.proofs.Math.Nat.{add-mul}
 use Rattle.std.proofs.lemmas.List.{length-map}
-use Rattle.std.proofs.lemmas.Option.{slice_get_within, slice_get-get_or}
+use Rattle.std.proofs.lemmas.Option.{slice_get_within, slice_get-get_or, unwrap_or-slice_get}
+use Rattle.std.specs.Prelude.{unwrap_or}
 use Rattle.ae_word.specs.declared.op.WordOp.{WordOp}
 use Rattle.ae_word.specs.declared.op.WordOp.TheVariants.{Mux, Not, Shl, Shr, Cast, Sar, SCast}
 use Rattle.ae_word.specs.WordTable.{latency_of, word_result}
@@ -25,12 +26,14 @@ one_slot : (wave : ℕ → ℕ → ℕ) (k : ℕ) (ws : List ℕ) → wave k 0 �
 one_slot wave k ws h zero zero slot found small =
     let s : record { clock = 0; lane = 0 } ≡ slot = cc in
     let t : k + 0 ≡ k = omega arith in
-    subst (λ (i : Slot). wave (k + i.clock) (i.lane * 1 + 0) ≡ get_or ws (0 * 1 + 0) 0) s (rw t h)
+    let u : wave k 0 ≡ unwrap_or (slice_get ws 0) 0 = rw (unwrap_or-slice_get ws 0 0) h in
+    subst (λ (i : Slot). wave (k + i.clock) (i.lane * 1 + 0) ≡ unwrap_or (slice_get ws (0 * 1 + 0)) 0) s (rw t u)
 one_slot wave k ws h zero (suc j) slot found small = absurd (omega arith)
 one_slot wave k ws h (suc e) j slot found small = cc
 
 slot_held : (wave : ℕ → ℕ → ℕ) (k : ℕ) (ws : List ℕ) → Holds wave k 1 ((record { clock = 0; lane = 0 }) ∷ []) ws → wave k 0 ≡ get_or ws 0 0
-slot_held wave k ws h = let t : k + 0 ≡ k = omega arith in rw t at (h 0 0 (record { clock = 0; lane = 0 }) refl (omega arith))
+slot_held wave k ws h = let t : k + 0 ≡ k = omega arith in
+    (rw t at (h 0 0 (record { clock = 0; lane = 0 }) refl (omega arith))) ∙ unwrap_or-slice_get ws 0 0
 
 -- ---- values and nets, operand by operand
 

@@ -2,6 +2,7 @@
 use Rattle.std.proofs.Common.{◌≡◌, ℕ, suc, ◌+◌, ◌<◌, ◌≤◌, Bool, true, false, not, ◌&&◌, ◌==◌, nat_le, nat_lt, List, [], ◌∷◌, ◌++◌, length, map, Some, if◌then◌else◌, refl, sym, ap, ◌∙◌, arith, codes, append_assoc, length-append}
 use Rattle.std.proofs.lemmas.Bool.{le-leb, lt-ltb, ltb-true}
 use Rattle.std.proofs.lemmas.List.{get_or_append_left}
+use Rattle.std.proofs.lemmas.Option.{unwrap_or-slice_get}
 use Rattle.std.specs.Str.{bytes_eq}
 use Rattle.ae_seqtype.specs.TypeText.{type_text}
 use Rattle.ae_seqtype.specs.SeqTree.{parts_in_size, depth}
@@ -34,19 +35,22 @@ abbrev pub Extends : (all names : List (List ℕ)) → Type 0
 Extends all names = (k : ℕ) → k < length names → name_at all k ≡ name_at names k
 
 pub extends-append : (names later : List (List ℕ)) → Extends (names ++ later) names
-extends-append names later k h = get_or_append_left names later [] k h
+extends-append names later k h = rw (unwrap_or-slice_get (names ++ later) k [], unwrap_or-slice_get names k []) (get_or_append_left names later [] k h)
+
+place-named : (names : List (List ℕ)) (k : ℕ) → all_distinct names ≡ true → k < length names → place (name_at names k) names ≡ Some k
+place-named names k d h = rw (unwrap_or-slice_get names k []) (place-at names k d h)
 
 pub places-read : (all items : List (List ℕ)) (before ks : List ℕ) → Extends all items → all_distinct items ≡ true → all_below (length items) ks ≡ true
     → places_after items before (map (name_at all) ks) ≡ Some (before ++ ks)
 places-read all items before [] x d h = ap (λ r. Some r) (sym (append-none before))
 places-read all items before (k ∷ ks) x d h =
     let l = ltb-true k (length items) (and-first _ _ h) in
-    ap (λ o. o >>= λ j. places_after items (before ++ j ∷ []) (map (name_at all) ks)) (ap (λ n. place n items) (x k l) ∙ place-at items k d l)
+    ap (λ o. o >>= λ j. places_after items (before ++ j ∷ []) (map (name_at all) ks)) (ap (λ n. place n items) (x k l) ∙ place-named items k d l)
     ∙ places-read all items (before ++ k ∷ []) ks x d (and-second (nat_lt k (length items)) _ h) ∙ ap (λ r. Some r) (append_assoc before (k ∷ []) ks)
 
 pub funcs-found : (n : ℕ) (all names : List (List ℕ)) → Extends all names → all_distinct names ≡ true → n ≤ length names → FuncsFound n all names
 funcs-found n all names x d h k l =
-    ap (λ m. below n (place m names)) (x k (omega arith)) ∙ ap (below n) (place-at names k d (omega arith)) ∙ ap (λ t. where_ok t (Some k)) (lt-ltb k n l)
+    ap (λ m. below n (place m names)) (x k (omega arith)) ∙ ap (below n) (place-named names k d (omega arith)) ∙ ap (λ t. where_ok t (Some k)) (lt-ltb k n l)
 
 -- ---- parameters
 

@@ -1,6 +1,8 @@
 -- Names and fields as they are written.
 use Rattle.std.proofs.Common.{◌≡◌, ℕ, zero, suc, ◌+◌, ◌-◌, ◌<◌, ◌≤◌, Bool, true, ◌&&◌, nat_lt, List, [], ◌∷◌, ◌++◌, length, map, get_or, drop, refl, sym, ap, ◌∙◌, arith, string_bytes, append_assoc, subst}
-use Rattle.std.proofs.lemmas.List.{drop_more, get_or_append_left, get_or-append_right}
+use Rattle.std.proofs.lemmas.List.{drop_more, get_or-append_right}
+use Rattle.std.proofs.lemmas.Option.{unwrap_or-slice_get}
+use Rattle.std.specs.Prelude.{slice_get, unwrap_or}
 use Rattle.std.proofs.lemmas.Bool.{ltb-true, lt-ltb}
 use Rattle.ae_seq.specs.ProgramTree.{op_tree, FuncTree, ParamTree, NodeTree, func_tree, param_tree, node_tree}
 use Rattle.ae_seq.specs.declared.program.Func.{Func}
@@ -11,11 +13,12 @@ use Rattle.ae_seq.specs.Trees.{func_trees, node_trees, param_trees}
 use Rattle.ae_print.specs.Printed.{name_at, spaced, joined, text_of, func_statements, funcs_statements, nodes_fit, funcs_fit}
 use Rattle.ae_print.proofs.ProgramRead.{func-fits}
 use Rattle.std.proofs.lemmas.Grind.{common_steps}
-use Rattle.ae_print.proofs.LineRead.{append-none, length-map as length-trees}
+use Rattle.ae_print.proofs.LineRead.{extends-append, append-none, length-map as length-trees}
 use Rattle.ae_seq.proofs.Judging.{left as and-first, right as and-second}
 use Rattle.ae_fields.proofs.PartLemmas.{and-both}
 
-twice-at : {A B : Type 0} (f : A → B) (g : B → List ℕ) (xs : List A) (k : ℕ) (d : A) → k < length xs → get_or (map g (map f xs)) k [] ≡ g (f (get_or xs k d))
+twice-at : {A B : Type 0} (f : A → B) (g : B → List ℕ) (xs : List A) (k : ℕ) (d : A) → k < length xs
+    → unwrap_or (slice_get (map g (map f xs)) k) [] ≡ g (f (get_or xs k d))
 twice-at f g [] k d h = absurd (omega arith)
 twice-at f g (x ∷ xs) zero d h = refl
 twice-at f g (x ∷ xs) (suc k) d h = twice-at f g xs k d (omega arith)
@@ -37,13 +40,15 @@ pub front-item : (ps : List Param) (ns : List Node) (k : ℕ) (d : Param) → k 
     → string_bytes (get_or ps k d).name ≡ name_at (param_names (param_trees ps) ++ node_names (node_trees ns)) k
 front-item ps ns k d h =
     let l = length-params ps in
-    param-name-at ps k d h ∙ sym (get_or_append_left (param_names (param_trees ps)) (node_names (node_trees ns)) [] k (omega arith))
+    param-name-at ps k d h ∙ sym (extends-append (param_names (param_trees ps)) (node_names (node_trees ns)) k (omega arith))
 
 pub back-item : (ps : List Param) (ns : List Node) (k : ℕ) (d : Node) → length ps ≤ k → k < length ps + length ns
     → string_bytes (get_or ns (k - length ps) d).name ≡ name_at (param_names (param_trees ps) ++ node_names (node_trees ns)) k
 back-item ps ns k d low h =
     node-name-at ns (k - length ps) d (omega arith)
+    ∙ (unwrap_or-slice_get (node_names (node_trees ns)) (k - length ps) []
     ∙ sym (get_or-append_right (param_names (param_trees ps)) (node_names (node_trees ns)) (length ps) k [] (length-params ps) low)
+    ∙ sym (unwrap_or-slice_get (param_names (param_trees ps) ++ node_names (node_trees ns)) k []))
 
 -- fields and lines one after the other
 pub spaced_append : (xs ys : List (List ℕ)) → spaced (xs ++ ys) ≡ spaced xs ++ spaced ys

@@ -1,5 +1,5 @@
 -- How a program is written: one statement a line, one space between fields.
-use Rattle.std.specs.Prelude.{ℕ, ◌+◌, ◌^◌, Bool, true, ◌==◌, nat_lt, if◌then◌else◌, List, [], ◌∷◌, ◌++◌, length, map, get_or, codes}
+use Rattle.std.specs.Prelude.{ℕ, ◌+◌, ◌^◌, Bool, true, ◌==◌, nat_lt, if◌then◌else◌, List, [], ◌∷◌, ◌++◌, length, map, slice_get, unwrap_or, codes}
 use Rattle.std.specs.Fmt.{decimal}
 use Rattle.std.specs.List.{list_all}
 use Rattle.ae_word.specs.WordTable.{row_of}
@@ -11,7 +11,7 @@ use Rattle.ae_seq.specs.Formed.{param_names, node_names, func_names}
 
 -- the name of a function above; the default is read of none
 abbrev pub name_at : List (List ℕ) → ℕ → List ℕ
-name_at names k = get_or names k []
+name_at names k = unwrap_or (slice_get names k) []
 
 -- an operator and what belongs to it, by the names of the functions
 abbrev pub op_fields : (funcs : List (List ℕ)) → OpTree → List (List ℕ)
@@ -35,7 +35,7 @@ op_fields funcs unpartition = codes "unpartition" ∷ []
 
 -- the word that it begins with
 abbrev pub op_word : OpTree → List ℕ
-op_word op = get_or (op_fields [] op) 0 []
+op_word op = unwrap_or (slice_get (op_fields [] op) 0) []
 
 -- ---- statements, as lists of fields
 

@@ -1,9 +1,10 @@
 -- The first word that stands so many clocks before its source.
-use Rattle.std.proofs.Common.{◌≡◌, ℕ, ◌+◌, ◌-◌, ◌*◌, ◌/◌, ◌<◌, ◌≤◌, inl, inr, Bool, false, List, map, Option, None, Some, slice_get, get_or, refl, arith, sym, ap, ◌∙◌, subst}
+use Rattle.std.proofs.Common.{◌≡◌, ℕ, ◌+◌, ◌-◌, ◌*◌, ◌/◌, ◌<◌, ◌≤◌, inl, inr, Bool, false, List, map, Option, None, Some, slice_get, refl, arith, sym, ap, ◌∙◌, subst}
 use Rattle.std.specs.Option.{is_some}
 use Rattle.std.proofs.lemmas.Bool.{cases_lt, false≢true}
 use Rattle.std.proofs.lemmas.Nat.{div-add-mod', mod_below}
-use Rattle.std.proofs.lemmas.Option.{get_or_from_slice_get, same_Some}
+use Rattle.std.proofs.lemmas.Option.{same_Some}
+use Rattle.std.specs.Prelude.{unwrap_or}
 use Rattle.ae_word.specs.AtomTree.{unsigned_word}
 use Rattle.ae_seqtype.specs.SeqTree.{SeqTree}
 use Rattle.ae_seqtype.specs.ValueTree.{flat}
@@ -11,7 +12,6 @@ use Rattle.ae_seq.specs.ProgramTree.{ProgramTree}
 use Rattle.ae_seq.specs.Meaning.{at}
 use Rattle.ae_sttype.specs.declared.st_type.Slot.{Slot}
 use Rattle.ae_sttype.specs.StTree.{StTree, atom, sseq, st_atoms, element_words}
-use Rattle.ae_sttype.specs.Slots.{slots}
 use Rattle.ae_sttype.specs.Moves.{OriginTree, TripTree, from_input, fixed, greatest, lead_from, slot_number, source_of, trip_number}
 use Rattle.ae_moves.specs.Origins.{Move, move_latency, move_trips}
 use Rattle.ae_moves.proofs.Words.{lead_le}
@@ -28,7 +28,7 @@ use Rattle.ae_results.specs.Certified.{AreEarly, FirstIn, IsFirstOf, IsLateIn, I
 lead-by : (m : Move) (o : ℕ) (origin : OriginTree) → slice_get m.origins o ≡ Some origin
     → lead_at m o ≡ lead_from (slot_number m.out (o / element_words m.out)).clock (source_of m.ins origin)
 lead-by m o origin here =
-    ap (λ x. lead_from (slot_number m.out (o / element_words m.out)).clock (source_of m.ins x)) (get_or_from_slice_get m.origins o origin (fixed 0) here)
+    ap (λ x. lead_from (slot_number m.out (o / element_words m.out)).clock (source_of m.ins x)) (ap (λ (o : Option OriginTree). unwrap_or o (fixed 0)) here)
 
 -- a fixed word has no source
 pub lead-none : (m : Move) (o : ℕ) (origin : OriginTree) → slice_get m.origins o ≡ Some origin → (word : ℕ) × (origin ≡ fixed word) → lead_at m o ≡ 0
@@ -39,10 +39,8 @@ pub lead-way : (m : Move) (o : ℕ) (origin : OriginTree) (c : Certificate) → 
 lead-way m o origin c here w =
     let own : Slot = record { clock = c.clock; lane = c.lane } in
     let from : Slot = record { clock = c.from_clock; lane = c.from_lane } in
-    let slot : slot_number m.out (o / element_words m.out) ≡ own = get_or_from_slice_get (slots m.out) (o / element_words m.out) own
-    (record { clock = 0; lane = 0 }) w.stands in
-    let source_slot : slot_number w.source w.from_element ≡ from = get_or_from_slice_get (slots w.source) w.from_element from
-    (record { clock = 0; lane = 0 }) w.source_stands in
+    let slot : slot_number m.out (o / element_words m.out) ≡ own = ap (λ (o : Option Slot). unwrap_or o (record { clock = 0; lane = 0 })) w.stands in
+    let source_slot : slot_number w.source w.from_element ≡ from = ap (λ (o : Option Slot). unwrap_or o (record { clock = 0; lane = 0 })) w.source_stands in
     lead-by m o origin here
     ∙ ap (λ x. lead_from (slot_number m.out (o / element_words m.out)).clock (source_of m.ins x)) w.comes
     ∙ ap (λ (y : StTree). (slot_number y w.from_element).clock - (slot_number m.out (o / element_words m.out)).clock)
@@ -151,11 +149,12 @@ module _ (p : ProgramTree) (ins outs : List StTree) (c : Certificate)
       let more = h.some in
       omega (arith, lead, most, enough, more)
 
-  traced : origin_numbered types (get_or (flat (at (trace p) c.result)) (own.place / w * w + c.word) 0) ≡ from_input c.param own.way.from_element c.from_word
+  traced : origin_numbered types (unwrap_or (slice_get (flat (at (trace p) c.result)) (own.place / w * w + c.word)) 0) ≡ from_input c.param
+      own.way.from_element c.from_word
   traced =
-      ap (λ n. origin_numbered types (get_or (flat (at (trace p) c.result)) n 0)) whole
+      ap (λ n. origin_numbered types (unwrap_or (slice_get (flat (at (trace p) c.result)) n) 0)) whole
       ∙ sym (origin-map (origin_numbered types) refl (flat (at (trace p) c.result)) own.place)
-      ∙ get_or_from_slice_get (origins c.result) own.place own.origin (fixed 0) own.here
+      ∙ ap (λ (o : Option OriginTree). unwrap_or o (fixed 0)) own.here
       ∙ own.way.comes
 
   earlier : (r o : ℕ) (s : StTree) → slice_get outs r ≡ Some s → o < st_atoms s * element_words s → ComesBefore r o c.result own.place
@@ -180,7 +179,7 @@ module _ (p : ProgramTree) (ins outs : List StTree) (c : Certificate)
     traced = traced;
     late = late;
     first = λ r o s found below order.
-        (let there : get_or outs r (sseq 0 (atom (unsigned_word 1))) ≡ s = index-there outs r s (sseq 0 (atom (unsigned_word 1))) found in
+        (let there : unwrap_or (slice_get outs r) (sseq 0 (atom (unsigned_word 1))) ≡ s = index-there outs r s (sseq 0 (atom (unsigned_word 1))) found in
         subst (λ (y : StTree). lead_at (traced_move types ins y (at (trace p) r)) o < least p ins outs) (sym there)
         (earlier r o s found below (subst (ComesBefore r o c.result) whole order)));
   }

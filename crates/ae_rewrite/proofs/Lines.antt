@@ -1,7 +1,8 @@
 -- The failing lines of a formed program, as a recursion over functions.
 use Rattle.std.proofs.Common.{◌≡◌, ℕ, suc, ◌+◌, ◌<◌, List, [], ◌∷◌, length, get_or, Option, Some, None, refl, ap, sym, ◌∙◌, arith, slice_get, cond, IsTrue}
+use Rattle.std.specs.Prelude.{unwrap_or}
 use Rattle.std.proofs.lemmas.Bool.Decides.{nat_tests}
-use Rattle.std.proofs.lemmas.Option.{slice_get-get_or, get_or_from_slice_get, none-some, same_Some}
+use Rattle.std.proofs.lemmas.Option.{slice_get-get_or, none-some, same_Some}
 use Rattle.ae_seq.specs.ProgramTree.{ProgramTree, FuncTree, NodeTree, OpTree, call, each, each_two}
 use Rattle.ae_seq.specs.Formed.{formed, is_line}
 use Rattle.ae_seq.specs.Typing.{grown}
@@ -61,8 +62,8 @@ failing_is p f clocks of h at =
     let same : SameBelow f (lines_in e.before) (lines_in all) = λ g u below.
     let inside : g < length e.before = omega arith in
     let there = slice_get-get_or e.before g no_line inside in
-    ap (λ (x : ℕ → Option ℕ). x u) (sym (get_or_from_slice_get all g (get_or e.before g no_line) no_line (e.same g (get_or e.before g no_line) there))) in
-    ap (λ (x : ℕ → Option ℕ). x clocks) (get_or_from_slice_get all f (next_lines p e.before of) no_line read)
+    ap (λ (o : Option (ℕ → Option ℕ)). unwrap_or o no_line u) (there ∙ sym (e.same g (get_or e.before g no_line) there)) in
+    ap (λ (o : Option (ℕ → Option ℕ)). unwrap_or o no_line clocks) read
     ∙ ap (λ m. func_line p (lines_in e.before) m clocks of) long
     ∙ ap (λ o. cond (params_laid clocks of.params) o (Some of.line))
     (nodes-same p f clocks (lines_in e.before) (lines_in all) (length of.params) of.nodes same (λ k n c here is. called-above p f clocks of k n c h at here is))

@@ -2,8 +2,9 @@
 use Rattle.std.proofs.Common.{◌≡◌, ℕ, zero, suc, ◌+◌, ◌-◌, ◌*◌, ◌/◌, ◌%◌, ◌<◌, ◌≤◌, List, [], ◌∷◌, ◌++◌, length, length-append, map, take, get_or, Option, Some, None, Bool, true, false, ◌==◌, cond, nat_eq, nat_le, nat_lt, refl, ap, sym, ◌∙◌, arith, inl, inr, slice_get, IsTrue, mul_comm, mul_assoc}
 use Rattle.std.proofs.Math.Nat.{mul-div_cancel, mul-le-mul_right, add-mul}
 use Rattle.std.specs.Option.{option_map}
+use Rattle.std.specs.Prelude.{unwrap_or}
 use Rattle.std.proofs.lemmas.List.{length-map, length-take-le}
-use Rattle.std.proofs.lemmas.Option.{slice_get-map, slice_get_within, slice_get-get_or, get_or_from_slice_get, none-some, same_Some, option_and_then_some}
+use Rattle.std.proofs.lemmas.Option.{slice_get-map, slice_get_within, slice_get-get_or, none-some, same_Some, option_and_then_some}
 use Rattle.std.proofs.lemmas.Bool.{cases_lt, eqb-true, leb-true, ltb-true}
 use Rattle.std.proofs.lemmas.Bool.Decides.{nat_tests}
 use Rattle.ae_word.specs.declared.op.WordOp.{WordOp}
@@ -76,7 +77,7 @@ pub record HasItem (p : ProgramTree) (f budget : ℕ) (layouts : List StTree) (a
 item_of : (p : ProgramTree) (f budget : ℕ) (layouts : List StTree) (a : ℕ) (s : StTree) → slice_get layouts a ≡ Some s → layout_at p f budget a ≡ Some s
     → HasItem p f budget layouts a
 item_of p f budget layouts a s at is =
-    let e : item_layout layouts a ≡ s = get_or_from_slice_get layouts a s (sseq 0 (st_atom (unsigned_word 1))) at in
+    let e : item_layout layouts a ≡ s = ap (λ (o : Option StTree). unwrap_or o (sseq 0 (st_atom (unsigned_word 1)))) at in
     option_and_then_some (λ t. lay_of t budget) (type_at p f a) s is
     (λ t type some. record { type = t; item = record { is = type; laid = some ∙ ap Some (sym e) } })
 

@@ -1,6 +1,6 @@
 -- What a circuit of a program does: block after block, it makes of the values of the parameters those of the results, where
 -- they stand in the slots of their layouts (Durst et al., PLDI 2020). Every way of lowering a program keeps this.
-use Rattle.std.specs.Prelude.{◌≡◌, ℕ, ◌+◌, ◌*◌, ◌≤◌, List, length, map, get_or, Some, slice_get}
+use Rattle.std.specs.Prelude.{◌≡◌, ℕ, ◌+◌, ◌*◌, ◌≤◌, List, length, map, Some, slice_get, unwrap_or}
 use Rattle.ae_seqtype.specs.ValueTree.{ValueTree, flat}
 use Rattle.ae_seq.specs.ProgramTree.{ProgramTree}
 use Rattle.ae_seq.specs.Meaning.{at, mean}
@@ -22,7 +22,7 @@ input_wave run start first = λ c q. word_at run (start + c) (first + q)
 
 -- the net of an output, by its number; the default is read of none
 abbrev pub outlet_net : List Outlet → ℕ → ℕ
-outlet_net outlets k = (get_or (map (λ (o : Outlet). o.net) outlets) k (record { 0 = 0 })).0
+outlet_net outlets k = (unwrap_or (slice_get (map (λ (o : Outlet). o.net) outlets) k) (record { 0 = 0 })).0
 
 -- the words of the outputs from one on
 abbrev pub output_wave : List Clock → List Outlet → (start first : ℕ) → (clock column : ℕ) → ℕ

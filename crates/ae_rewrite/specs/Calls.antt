@@ -1,5 +1,5 @@
 -- Items of a function under a budget: their layouts, and what each node calls.
-use Rattle.std.specs.Prelude.{ℕ, ◌-◌, ◌*◌, ◌/◌, Bool, false, nat_eq, if◌then◌else◌, List, Option, Some, None, option_map, get_or}
+use Rattle.std.specs.Prelude.{ℕ, ◌-◌, ◌*◌, ◌/◌, Bool, false, nat_eq, if◌then◌else◌, List, Option, Some, None, option_map, slice_get, unwrap_or}
 use Rattle.ae_word.specs.declared.op.WordOp.{WordOp}
 use Rattle.ae_word.specs.declared.op.WordOp.TheVariants.{Cast}
 use Rattle.ae_word.specs.AtomTree.{word as atom_word}
@@ -40,7 +40,7 @@ inner clocks s = inner_of s.count clocks s.case
 
 -- the first item that a node takes
 abbrev pub head : List ℕ → ℕ
-head args = get_or args 0 0
+head args = unwrap_or (slice_get args 0) 0
 
 -- ---- calls
 
@@ -84,7 +84,7 @@ is_signed_type _ = false
 
 -- an operator goes by the kind of this argument: a choice by its arms
 abbrev pub deciding_argument : WordOp → List ℕ → ℕ
-deciding_argument op args = get_or args (row_of op).main 0
+deciding_argument op args = unwrap_or (slice_get args (row_of op).main) 0
 
 -- the operator by the kind of its deciding_argument
 abbrev pub op_by : ProgramTree → (func : ℕ) → WordOp → List ℕ → WordOp

@@ -1,5 +1,5 @@
 -- The line at which a function has no schedule under a budget.
-use Rattle.std.specs.Prelude.{ℕ, ◌+◌, ◌-◌, Bool, true, ◌&&◌, is_some, if◌then◌else◌, List, [], ◌∷◌, length, Option, Some, None, get_or}
+use Rattle.std.specs.Prelude.{ℕ, ◌+◌, ◌-◌, Bool, true, ◌&&◌, is_some, if◌then◌else◌, List, [], ◌∷◌, length, Option, Some, None, slice_get, unwrap_or}
 use Rattle.ae_seq.specs.ProgramTree.{ProgramTree, FuncTree, NodeTree, ParamTree}
 use Rattle.ae_seq.specs.Typing.{grown}
 use Rattle.ae_sttype.specs.StTree.{StTree}
@@ -48,7 +48,7 @@ abbrev pub no_line : ℕ → Option ℕ
 no_line clocks = None
 
 abbrev pub lines_in : List (ℕ → Option ℕ) → ℕ → ℕ → Option ℕ
-lines_in known f clocks = get_or known f no_line clocks
+lines_in known f clocks = unwrap_or (slice_get known f) no_line clocks
 
 abbrev pub next_lines : ProgramTree → List (ℕ → Option ℕ) → FuncTree → ℕ → Option ℕ
 next_lines p known f clocks = func_line p (lines_in known) (length known) clocks f

@@ -1,5 +1,5 @@
 -- What is sure of every program in space and time: arguments stand above, amounts are within limits, each operator fits its layouts, and each instance is used.
-use Rattle.std.specs.Prelude.{◌≡◌, ℕ, ◌+◌, ◌-◌, ◌*◌, ◌%◌, ◌^◌, ◌<◌, ◌≤◌, List, [], ◌∷◌, ◌++◌, length, map, take, Some, slice_get, get_or}
+use Rattle.std.specs.Prelude.{◌≡◌, ℕ, ◌+◌, ◌-◌, ◌*◌, ◌%◌, ◌^◌, ◌<◌, ◌≤◌, List, [], ◌∷◌, ◌++◌, length, map, take, Some, slice_get, unwrap_or}
 use Rattle.ae_word.specs.AtomTree.{WordKind, atom_kinds, unsigned_word}
 use Rattle.ae_sttype.specs.StTree.{StTree, atom, sseq, st_atoms, element_atom, element_words}
 use Rattle.ae_rewrite.specs.declared.st_program.MoveOp.{MoveOp}
@@ -13,7 +13,7 @@ item_layouts s = s.ins ++ node_layouts s.nodes
 
 -- the layout of item a; the default is read of no item
 abbrev pub item_layout : List StTree → (a : ℕ) → StTree
-item_layout layouts a = get_or layouts a (sseq 0 (atom (unsigned_word 1)))
+item_layout layouts a = unwrap_or (slice_get layouts a) (sseq 0 (atom (unsigned_word 1)))
 
 -- each element of the result of a move has its place in the argument, by how many elements they have
 abbrev pub IsMoveFrom : MoveOp → (in_atoms out_atoms : ℕ) → Type 0

@@ -5,6 +5,7 @@ use Rattle.ae_netlist.specs.declared.cell.Cell.TheVariants.{Input, Const, Op, Re
 use Rattle.ae_netlist.specs.declared.cell.SizedCell.{SizedCell}
 use Rattle.ae_netlist.specs.Circuit.{IsNet, IsPlain}
 use Rattle.ae_netlist.specs.Runs.{Clock, word_at, CellHolds, IsRun}
+use Rattle.ae_netlist.proofs.ReadAt.{word_got}
 use Rattle.ae_netlist.proofs.Shapes.{clock_shaped, cell_holds}
 
 plain_holds : (cell : Cell) (w x : ℕ) (s : List ℕ) → IsPlain cell → CellHolds cell w x s → x < 2 ^ w
@@ -17,5 +18,5 @@ plain_holds (Peek mem at) w x s p h = h.0
 
 -- in a run the word of a net fits its width
 pub net_fits : (cells : List SizedCell) (run : List Clock) (t n w : ℕ) → IsNet cells n w → IsRun cells run → t < length run → word_at run t n < 2 ^ w
-unfolding word_at
-net_fits cells run t n w p is l = rw (← p.wide) (plain_holds p.sized.cell p.sized.width _ _ p.plain (cell_holds (clock_shaped is t l) n p.sized p.found))
+net_fits cells run t n w p is l =
+    rw (← p.wide, word_got run t n) (plain_holds p.sized.cell p.sized.width _ _ p.plain (cell_holds (clock_shaped is t l) n p.sized p.found))

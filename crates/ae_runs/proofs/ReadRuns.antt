@@ -12,19 +12,19 @@ use Rattle.ae_runs.specs.Runs.{clock_at, FitsKind, IsModuleShaped, IsSettled, Is
 use Rattle.ae_runs.specs.PlainRun.{clocks_from}
 use Rattle.ae_runs.specs.Named.{StandsFor, read}
 use Rattle.ae_runs.specs.Realizes.{Realizes}
+use Rattle.ae_netlist.proofs.ReadAt.{store_got}
 use Rattle.ae_runs.proofs.Fits.{net_fits}
 use Rattle.ae_runs.proofs.Made.{from_length, from_at}
 
 -- what stands for a name holds what the name holds
 stands_hold : (k : NetKind) (cells : List SizedCell) (run : List netlist.Clock) (t net width : ℕ) → netlist.IsRun cells run → t < length run
     → StandsFor k cells net width → FitsKind k width (netlist.word_at run t net) (netlist.store_at run t net)
-unfolding netlist.store_at
 stands_hold Input cells run t net width r l s = net_fits cells run t net width s r l
 stands_hold Wire cells run t net width r l s = net_fits cells run t net width s r l
 stands_hold OutWire cells run t net width r l s = net_fits cells run t net width s r l
 stands_hold Reg cells run t net width r l s = net_fits cells run t net width s r l
 stands_hold OutReg cells run t net width r l s = net_fits cells run t net width s r l
-stands_hold (Memory depth) cells run t net width r l s = let h = cell_holds (clock_shaped r t l) net _ s.found in (h.1, h.2)
+stands_hold (Memory depth) cells run t net width r l s = let h = cell_holds (clock_shaped r t l) net _ s.found in rw (store_got run t net) (h.1, h.2)
 
 module _ (m : ModuleTree) (n : Circuit) (at : List ℕ → ℕ) (r : Realizes m n at) where
   -- the run by name

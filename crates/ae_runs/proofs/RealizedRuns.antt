@@ -4,6 +4,8 @@ use Rattle.std.specs.Prelude.{◌&&◌, ◌||◌, not}
 use Rattle.std.specs.List.{enumerate_from}
 use Rattle.std.proofs.lemmas.Bool.{and_parts, and_from, not_from_true, not_from_false, false_from_ne_true, both_ways}
 use Rattle.std.proofs.lemmas.List.{get_or-map, length-map}
+use Rattle.std.proofs.lemmas.Option.{unwrap_or-slice_get}
+use Rattle.ae_netlist.proofs.ReadAt.{store_got, word_got}
 use Rattle.std.proofs.lemmas.Simd.{map-map}
 use Rattle.ae_netlist.specs.declared.cell.Cell.{Cell}
 use Rattle.ae_netlist.specs.declared.cell.Cell.TheVariants.{Input, Const, Op, Reg, Mem, Peek}
@@ -316,7 +318,7 @@ module _ (m : ModuleTree) (n : circuit.Circuit) (at : List ℕ → ℕ) (ok : Is
     laid_run = map laid_by run
 
     laid_run_at : (t : ℕ) → t < length run → get_or laid_run t netlist.no_clock ≡ laid_by (clock_at run t)
-    laid_run_at t l = get_or-map laid_by run t idle_clock netlist.no_clock l
+    laid_run_at t l = get_or-map laid_by run t idle_clock netlist.no_clock l ∙ ap laid_by (sym (unwrap_or-slice_get run t idle_clock))
 
     laid_long : length laid_run ≡ length run
     laid_long = length-map run laid_by
@@ -331,11 +333,21 @@ module _ (m : ModuleTree) (n : circuit.Circuit) (at : List ℕ → ℕ) (ok : Is
 
     laid_run_words : (t : ℕ) → t < length run → (net_input_words n laid_run t ≡ input_words m (clock_at run t))
         × (net_held_words n laid_run t ≡ held_words m (clock_at run t))
-    unfolding netlist.word_at netlist.store_at
     laid_run_words t l =
         let s = p.shaped t l in
-        rw (laid_run_at t l) (laid_words n.cells (input_words m (clock_at run t)) (held_words m (clock_at run t)) (fit_words (clock_at run t) s)
-        (fit_held (clock_at run t) s))
+        let here : netlist.Clock = laid_by (clock_at run t) in
+        let word : (k : ℕ) → netlist.word_at laid_run t k ≡ get_or here.words k 0 =
+        λ k. word_got laid_run t k ∙ ap (λ (c : netlist.Clock). get_or c.words k 0) (laid_run_at t l) in
+        let store : (k : ℕ) → netlist.store_at laid_run t k ≡ get_or here.stores k [] =
+        λ k. store_got laid_run t k ∙ ap (λ (c : netlist.Clock). get_or c.stores k []) (laid_run_at t l) in
+        let laid = laid_words n.cells (input_words m (clock_at run t)) (held_words m (clock_at run t)) (fit_words (clock_at run t) s)
+        (fit_held (clock_at run t) s) in (
+          each_map (λ (x : ℕ × SizedCell). netlist.word_at laid_run t x.0) (λ (x : ℕ × SizedCell). get_or here.words x.0 0) (input_cells n.cells)
+              (λ x a. word x.0) ∙ laid.0,
+          each_map (λ (x : ℕ × SizedCell). cell_words x.1.cell (netlist.word_at laid_run t x.0) (netlist.store_at laid_run t x.0))
+              (λ (x : ℕ × SizedCell). cell_words x.1.cell (get_or here.words x.0 0) (get_or here.stores x.0 [])) (state_cells n.cells)
+              (λ x a. rw (word x.0, store x.0) refl) ∙ laid.1,
+        )
 
     begins : (other : List netlist.Clock) → netlist.IsRunOn n.cells laid_run other → BeginAlike m n run other
     begins other o =

@@ -1,6 +1,6 @@
 -- What is computed depends on the words of the names that are read alone.
-use Rattle.std.proofs.Common.{ℕ, ◌≡◌, ◌==◌, ◌/◌, ◌%◌, ◌^◌, inl, inr, max, true, false, List, ◌++◌, get_or, refl, sym, ap, ◌∙◌, subst}
-use Rattle.std.specs.Prelude.{if◌then◌else◌}
+use Rattle.std.proofs.Common.{ℕ, ◌≡◌, ◌==◌, ◌/◌, ◌%◌, ◌^◌, inl, inr, max, true, false, List, ◌++◌, refl, sym, ap, ◌∙◌, subst}
+use Rattle.std.specs.Prelude.{if◌then◌else◌, slice_get, unwrap_or}
 use Rattle.std.proofs.lemmas.Bool.{cases_Bool, cond-true, cond-false, or_parts}
 use Rattle.ae_vmodule.specs.ModuleTree.{ExprTree, name, constant, place, part, index, unary, binary, choice, concat_one, concat_more, StmtTree, set, put, when, either, block_end, block_more, NetTree}
 use Rattle.ae_judge.specs.Names.{Among, is_memory_name, names_in, stmt_reads}
@@ -34,10 +34,11 @@ branch_store x y a b c d k e p q = elim (cases_Bool (x == 0)) [
 
 module _ (ns : List NetTree) (c d : ModuleClock) where
   index_same : (n : List ℕ) (x y : ℕ) → IsSameName ns c d n → x ≡ y
-      → (if is_memory_name ns n then get_or (c.store n) x 0 else c.word n / 2 ^ x % 2) ≡ (if is_memory_name ns n then get_or
-      (d.store n) y 0 else d.word n / 2 ^ y % 2)
+      → (if is_memory_name ns n then unwrap_or (slice_get (c.store n) x) 0 else c.word n / 2 ^ x % 2) ≡ (if is_memory_name ns n then
+      unwrap_or (slice_get (d.store n) y) 0 else d.word n / 2 ^ y % 2)
   index_same n x y h e = elim (cases_Bool (is_memory_name ns n)) [
-    | inl t ↦ cond-true _ _ _ t ∙ ap (λ s. get_or s x 0) (h.store t) ∙ ap (λ k. get_or (d.store n) k 0) e ∙ sym (cond-true _ _ _ t)
+    | inl t ↦ cond-true _ _ _ t ∙ ap (λ s. unwrap_or (slice_get s x) 0) (h.store t) ∙ ap (λ k. unwrap_or (slice_get (d.store n) k) 0) e ∙
+        sym (cond-true _ _ _ t)
     | inr f ↦ cond-false _ _ _ f ∙ ap (λ w. w / 2 ^ x % 2) (h.word f) ∙ ap (λ k. d.word n / 2 ^ k % 2) e ∙ sym (cond-false _ _ _ f)
   ]
 

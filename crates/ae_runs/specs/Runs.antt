@@ -1,5 +1,5 @@
 -- The runs of a module: lists of clocks that meet its equations, which have no order.
-use Rattle.std.specs.Prelude.{ℕ, ◌≡◌, ◌+◌, ◌<◌, ◌≤◌, ◌^◌, false, List, [], ◌∷◌, length, get_or, All, codes}
+use Rattle.std.specs.Prelude.{ℕ, ◌≡◌, ◌+◌, ◌<◌, ◌≤◌, ◌^◌, false, List, [], ◌∷◌, length, slice_get, unwrap_or, All, codes}
 use Rattle.ae_vmodule.specs.declared.module.NetKind.{NetKind}
 use Rattle.ae_vmodule.specs.declared.module.NetKind.TheVariants.{Input, Wire, OutWire, Reg, OutReg, Memory}
 use Rattle.ae_vmodule.specs.ModuleTree.{NetTree, DriveTree, ItemTree, nets, assigns, always, ModuleTree}
@@ -10,7 +10,7 @@ unfoldable pub idle_clock : ModuleClock
 idle_clock = record { word = λ n. 0; store = λ n. [] }
 
 abbrev pub clock_at : List ModuleClock → ℕ → ModuleClock
-clock_at run t = get_or run t idle_clock
+clock_at run t = unwrap_or (slice_get run t) idle_clock
 
 -- what a clock has for a name: a memory so many words of its width, and another name one word
 abbrev pub FitsKind : NetKind → (width word : ℕ) → (store : List ℕ) → Type 0

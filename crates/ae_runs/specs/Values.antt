@@ -1,6 +1,6 @@
 -- What expressions and statements mean. Words are whole numbers; each expression that is narrower than the width
 -- handed down to it is extended with zeros.
-use Rattle.std.specs.Prelude.{ℕ, pos, ◌+◌, ◌-◌, ◌*◌, ◌/◌, ◌%◌, ◌^◌, ◌-ℤ◌, ◌==◌, max, nat_lt, nat_le, bit_and, bit_or, bit_xor, not, ◌&&◌, ◌||◌, if◌then◌else◌, List, get_or, slice_set, bytes_eq}
+use Rattle.std.specs.Prelude.{ℕ, pos, ◌+◌, ◌-◌, ◌*◌, ◌/◌, ◌%◌, ◌^◌, ◌-ℤ◌, ◌==◌, max, nat_lt, nat_le, bit_and, bit_or, bit_xor, not, ◌&&◌, ◌||◌, if◌then◌else◌, List, slice_get, unwrap_or, slice_set, bytes_eq}
 use Rattle.ae_word.specs.WordTable.{bit, code}
 use Rattle.ae_vmodule.specs.declared.module.UnOp.{UnOp}
 use Rattle.ae_vmodule.specs.declared.module.UnOp.TheVariants.{Not, Flip}
@@ -89,7 +89,7 @@ value_at ns c w (place k) = k
 value_at ns c w (part n high low) = c.word n / 2 ^ low % 2 ^ (high - low + 1)
 value_at ns c w (index n at) =
     if is_memory_name ns n
-    then get_or (c.store n) (value_at ns c (own_width ns at) at) 0
+    then unwrap_or (slice_get (c.store n) (value_at ns c (own_width ns at) at)) 0
     else c.word n / 2 ^ value_at ns c (own_width ns at) at % 2
 value_at ns c w (unary op a) = unary_result op w (value_at ns c (operand_width op w (own_width ns a)) a)
 value_at ns c w (binary op a b) =

@@ -1,5 +1,5 @@
 -- What a program computes, on values as nested lists.
-use Rattle.std.specs.Prelude.{ℕ, zero, suc, ◌+◌, ◌-◌, true, false, List, [], ◌∷◌, ◌++◌, length, take, drop, map, get_or}
+use Rattle.std.specs.Prelude.{ℕ, zero, suc, ◌+◌, ◌-◌, true, false, List, [], ◌∷◌, ◌++◌, length, take, drop, map, slice_get, unwrap_or}
 use Rattle.ae_word.specs.declared.op.WordOp.{WordOp}
 use Rattle.ae_word.specs.declared.op.WordOp.TheVariants.{Cast}
 use Rattle.ae_word.specs.AtomTree.{WordKind}
@@ -18,11 +18,11 @@ no_function vs = []
 
 -- value k of a list; a program that has types names none that is not there, so the default is not read
 abbrev pub at : List ValueTree → ℕ → ValueTree
-at vs k = get_or vs k end
+at vs k = unwrap_or (slice_get vs k) end
 
 -- the first result of function number k, which is one of those above
 abbrev pub applied : List Meaning → ℕ → List ValueTree → ValueTree
-applied known k vs = at (get_or known k no_function vs) 0
+applied known k vs = at (unwrap_or (slice_get known k) no_function vs) 0
 
 -- ---- words
 
@@ -139,4 +139,4 @@ meanings fs = grown meaning [] fs
 
 -- the results of the program function
 abbrev pub mean : ProgramTree → List ValueTree → List ValueTree
-mean p vs = get_or (meanings p.funcs) (length p.funcs - 1) no_function vs
+mean p vs = unwrap_or (slice_get (meanings p.funcs) (length p.funcs - 1)) no_function vs

@@ -1,5 +1,5 @@
 -- Values as nested lists and pairs of words, and their words in row-major order.
-use Rattle.std.specs.Prelude.{◌≡◌, ℕ, zero, suc, ◌^◌, ◌<◌, List, [], ◌∷◌, ◌++◌, take, drop, map, get_or, Option, Some, None, nat_lt, if◌then◌else◌, Bool, true, false, ◌&&◌}
+use Rattle.std.specs.Prelude.{◌≡◌, ℕ, zero, suc, ◌^◌, ◌<◌, List, [], ◌∷◌, ◌++◌, take, drop, map, slice_get, unwrap_or, Option, Some, None, nat_lt, if◌then◌else◌, Bool, true, false, ◌&&◌}
 use Rattle.ae_word.specs.AtomTree.{AtomTree, WordKind, word, pair, atom_words}
 use Rattle.ae_seqtype.specs.SeqTree.{SeqTree, atom, seq, words, kinds}
 
@@ -40,7 +40,7 @@ cut (suc n) k ws = take k ws ∷ cut n k (drop k ws)
 
 -- the value of a type that has these words; there is one for each atom, so the default is not read
 abbrev pub atom_value : AtomTree → List ℕ → ValueTree
-atom_value (word k) ws = number k (get_or ws 0 0)
+atom_value (word k) ws = number k (unwrap_or (slice_get ws 0) 0)
 atom_value (pair a b) ws = both (atom_value a (take (atom_words a) ws)) (atom_value b (drop (atom_words a) ws))
 
 abbrev pub value_of : SeqTree → List ℕ → ValueTree

@@ -2,19 +2,20 @@
 use Rattle.std.proofs.Common.{ℕ, ◌≡◌, ◌+◌, ◌-◌, ◌<◌, ◌≤◌, ◌==◌, inl, inr, List, [], ◌∷◌, ◌++◌, length, set, Some, slice_get, get_or, true, false, if◌then◌else◌, arith, refl, ap, sym, ◌∙◌, subst, eq-eqb}
 use Rattle.std.proofs.lemmas.Bool.{ne_eqb}
 use Rattle.std.proofs.lemmas.List.{length_push, get_or_push, get_or_append_left}
-use Rattle.std.proofs.lemmas.Option.{slice_get_within}
+use Rattle.std.proofs.lemmas.Option.{unwrap_or-slice_get, slice_get_within}
 use Rattle.ae_netlist.specs.declared.cell.NetId.{NetId}
 use Rattle.ae_netlist.specs.declared.cell.Cell.{Cell}
 use Rattle.ae_netlist.specs.declared.cell.Cell.TheVariants.{Input, Const, Op, Reg, Mem, Peek}
 use Rattle.ae_netlist.specs.declared.cell.SizedCell.{SizedCell}
 use Rattle.ae_netlist.specs.declared.cell.Outlet.{Outlet}
-use Rattle.ae_netlist.specs.Circuit.{IsNet, IsPlain, IsFormed}
+use Rattle.ae_netlist.specs.Circuit.{operand, IsNet, IsPlain, IsFormed}
 use Rattle.ae_netlist.specs.Counts.{is_input, is_register, is_memory, number_of}
 use Rattle.ae_netlist.specs.Runs.{Clock, no_clock, word_at, store_at, IsRun}
 use Rattle.ae_netlist.specs.Rows.{Firsts}
 use Rattle.ae_netlist.proofs.Gets.{get_from_take}
 use Rattle.ae_netlist.proofs.Settled.{cell_word, IsSettled, settled_once}
 use Rattle.ae_netlist.proofs.Given.{word_in, store_in}
+use Rattle.ae_netlist.proofs.ReadAt.{store_got, word_got}
 use Rattle.ae_netlist.proofs.Shapes.{clock_shaped, cell_holds}
 use Rattle.ae_sim.specs.Playing.{Plays, HasPlayed}
 
@@ -44,28 +45,34 @@ record Agrees (cells : List SizedCell) (held : Firsts) (row : List ℕ) (run : L
 clock_word : (cells : List SizedCell) (held : Firsts) (row : List ℕ) (run : List Clock) (t n width : ℕ) (cell : Cell) → IsFormed cells → IsRun cells run
     → t < length run → slice_get cells n ≡ Some (record { width = width; cell = cell }) → Agrees cells held row run t
     → get_or (get_or run t no_clock).words n 0 ≡ cell_word cells (word_in cells held row) (store_in cells held) (get_or run t no_clock).words n cell
-unfolding word_at store_at
-clock_word cells held row run t n width (Input port) formed r b found a = rw found (a.inputs n _ found refl)
-clock_word cells held row run t n width (Const k) formed r b found a = r.settles t n _ b found
-clock_word cells held row run t n width (Op op args) formed r b found a = r.settles t n _ b found
-clock_word cells held row run t n width (Reg next) formed r b found a = rw found (sym (a.registers n _ found refl))
+clock_word cells held row run t n width (Input port) formed r b found a = sym (word_got run t n) ∙ rw found (a.inputs n _ found refl)
+clock_word cells held row run t n width (Const k) formed r b found a = sym (word_got run t n) ∙ r.settles t n _ b found
+clock_word cells held row run t n width (Op op args) formed r b found a =
+    rw (word_got run t n, word_got run t (operand args 0), word_got run t (operand args 1), word_got run t (operand args 2)) at (r.settles t n _ b found)
+clock_word cells held row run t n width (Reg next) formed r b found a = sym (word_got run t n) ∙ rw found (sym (a.registers n _ found refl))
 clock_word cells held row run t n width (Mem depth at next enable) formed r b found a = (cell_holds (clock_shaped r t b) n _ found).0
 clock_word cells held row run t n width (Peek mem at) formed r b found a =
     let fits = (formed.each n (record { width = width; cell = Peek mem at }) found).cell in
     let kept : SizedCell = record { width = width; cell = Mem fits.depth fits.memory.at fits.memory.next fits.memory.enable } in
     let there : slice_get cells mem.0 ≡ Some kept = get_from_take cells n mem.0 kept fits.memory.found in
-    let store : get_or held.memories (number_of is_memory cells mem.0) [] ≡ get_or (get_or run t no_clock).stores mem.0 [] = a.memories mem.0 kept there refl in
-    rw there (r.settles t n _ b found ∙ ap (λ s. get_or s (get_or (get_or run t no_clock).words at.0 0) 0) (sym store))
+    let store : get_or held.memories (number_of is_memory cells mem.0) [] ≡ get_or (get_or run t no_clock).stores mem.0 [] = a.memories mem.0 kept there refl ∙
+    store_got run t mem.0 in
+    rw there ((rw (
+      word_got run t n,
+      word_got run t at.0,
+      store_got run t mem.0,
+      unwrap_or-slice_get (get_or (get_or run t no_clock).stores mem.0 [])
+          (get_or (get_or run t no_clock).words at.0 0) 0,
+    ) at (r.settles t n _ b found)) ∙ ap (λ s. get_or s (get_or (get_or run t no_clock).words at.0 0) 0) (sym store))
 
 words_played : (cells : List SizedCell) (held : Firsts) (row new : List ℕ) (run : List Clock) (t n : ℕ) → IsFormed cells → IsRun cells run → t < length run
     → Agrees cells held row run t
     → IsSettled cells (word_in cells held row) (store_in cells held) new → n < length cells → get_or new n 0 ≡ word_at run t n
-unfolding word_at
 words_played cells held row new run t n formed r b a settled l =
     let its : IsSettled cells (word_in cells held row) (store_in cells held) (get_or run t no_clock).words = record {
       each = λ i sized found. clock_word cells held row run t i sized.width sized.cell formed r b found a;
     } in
-    settled_once cells (word_in cells held row) (store_in cells held) new (get_or run t no_clock).words formed settled its n l
+    settled_once cells (word_in cells held row) (store_in cells held) new (get_or run t no_clock).words formed settled its n l ∙ sym (word_got run t n)
 
 -- what registers and memories hold after the clock
 pub record HasTurned (cells : List SizedCell) (held next : Firsts) (words : List ℕ) : Type 0 where
@@ -95,8 +102,7 @@ other_net cells n m width v depth at to enable found net e =
 
 memory_word : (cells : List SizedCell) (run : List Clock) (t n width depth : ℕ) (at to enable : NetId) → IsRun cells run → t < length run
     → slice_get cells n ≡ Some (record { width = width; cell = Mem depth at to enable }) → word_at run t n ≡ 0
-unfolding word_at
-memory_word cells run t n width depth at to enable r b found = (cell_holds (clock_shaped r t b) n _ found).0
+memory_word cells run t n width depth at to enable r b found = word_got run t n ∙ (cell_holds (clock_shaped r t b) n _ found).0
 
 memory_played : (cells : List SizedCell) (held next : Firsts) (row new : List ℕ) (run : List Clock) (t n width : ℕ) (cell : Cell) → is_memory cell ≡ true
     → IsFormed cells → IsRun cells run → t + 1 < length run

@@ -3,6 +3,8 @@ use Rattle.std.proofs.Common.{ℕ, zero, suc, ◌≡◌, ◌+◌, ◌^◌, ◌<�
 use Rattle.std.specs.Prelude.{map}
 use Rattle.std.proofs.lemmas.Bool.{cond-false}
 use Rattle.std.proofs.lemmas.List.{length-map}
+use Rattle.std.proofs.lemmas.Option.{unwrap_or-slice_get}
+use Rattle.ae_netlist.proofs.ReadAt.{store_got, word_got}
 use Rattle.ae_netlist.specs.declared.cell.Cell.{Cell}
 use Rattle.ae_netlist.specs.declared.cell.Cell.TheVariants.{Input, Const, Op, Reg, Mem, Peek}
 use Rattle.ae_netlist.specs.declared.cell.SizedCell.{SizedCell}
@@ -83,18 +85,20 @@ module _ (lines : ℕ → ℕ) (cells : List SizedCell) where
 
   clock_is : (run : List ModuleClock) (t : ℕ) → t < length run → get_or (run_by_number run) t r.no_clock ≡ numbered (clock_at run t)
   unfolding run_by_number
-  clock_is run t l = get_or-map numbered run t idle_clock r.no_clock l
+  clock_is run t l = get_or-map numbered run t idle_clock r.no_clock l ∙ ap numbered (sym (unwrap_or-slice_get run t idle_clock))
 
   pub word_is : (run : List ModuleClock) (t k : ℕ) (x : SizedCell) → t < length run → slice_get cells k ≡ Some x
       → r.word_at (run_by_number run) t k ≡ own_word lines (clock_at run t) k x.cell
-  unfolding r.word_at numbered
-  word_is run t k x l h = ap (λ (z : r.Clock). get_or z.words k 0) (clock_is run t l) ∙ word_from lines (clock_at run t) 0 cells k x h ∙
+  unfolding numbered
+  word_is run t k x l h = word_got (run_by_number run) t k ∙ ap (λ (z : r.Clock). get_or z.words k 0) (clock_is run t l) ∙
+      word_from lines (clock_at run t) 0 cells k x h ∙
       (let n : 0 + k ≡ k = omega arith in (λ i. own_word lines (clock_at run t) (n i) x.cell))
 
   pub store_is : (run : List ModuleClock) (t k : ℕ) (x : SizedCell) → t < length run → slice_get cells k ≡ Some x
       → r.store_at (run_by_number run) t k ≡ own_store lines (clock_at run t) k x.cell
-  unfolding r.store_at numbered
-  store_is run t k x l h = ap (λ (z : r.Clock). get_or z.stores k []) (clock_is run t l) ∙ store_from lines (clock_at run t) 0 cells k x h ∙
+  unfolding numbered
+  store_is run t k x l h = store_got (run_by_number run) t k ∙ ap (λ (z : r.Clock). get_or z.stores k []) (clock_is run t l) ∙
+      store_from lines (clock_at run t) 0 cells k x h ∙
       (let n : 0 + k ≡ k = omega arith in (λ i. own_store lines (clock_at run t) (n i) x.cell))
 
 plain_word : (lines : ℕ → ℕ) → (m : ModuleClock) (k : ℕ) (cell : Cell) → c.IsPlain cell → own_word lines m k cell ≡ m.word (cell_name lines k cell)
@@ -172,7 +176,7 @@ module _ (lines : ℕ → ℕ) (cells : List SizedCell) (outlets : List Outlet) 
   settles t k width (Op op args) l h = makes_from lines cells outlets outs ok (clock_at run t) (r.word_at other t) (r.store_at other t) (reads t l)
       (is.settles t l) k width (Op op args) h
   settles t k width (Peek mem at) l h = makes_from lines cells outlets outs ok (clock_at run t) (r.word_at other t) (r.store_at other t) (reads t l)
-      (is.settles t l) k width (Peek mem at) h
+      (is.settles t l) k width (Peek mem at) h ∙ sym (unwrap_or-slice_get (r.store_at other t mem.0) (r.word_at other t at.0) 0)
 
   steps : (t k width : ℕ) (cell : Cell) → t + 1 < length run → slice_get cells k ≡ Some (record { width = width; cell = cell }) → r.Steps other t k cell
   steps t k width (Input port) l h = tt

@@ -2,6 +2,8 @@
 use Rattle.std.proofs.Common.{ℕ, ◌≡◌, ◌==◌, ◌+◌, ◌^◌, ◌<◌, ◌⊎◌, inl, inr, false, List, [], ◌∷◌, ◌++◌, length, Option, Some, None, slice_get, arith, refl, sym, ap, ◌∙◌, subst}
 use Rattle.std.specs.Prelude.{map, bytes_eq, find}
 use Rattle.std.proofs.lemmas.Bool.{cases_Bool, eqb-true, cond-false, both_ways}
+use Rattle.std.proofs.lemmas.Option.{unwrap_or-slice_get}
+use Rattle.ae_netlist.proofs.ReadAt.{store_got, word_got}
 use Rattle.ae_netlist.specs.declared.cell.NetId.{NetId}
 use Rattle.ae_netlist.specs.declared.cell.Cell.{Cell}
 use Rattle.ae_netlist.specs.declared.cell.Cell.TheVariants.{Input, Const, Op, Reg, Mem, Peek}
@@ -131,8 +133,7 @@ module _ (lines : ℕ → ℕ) (cells : List SizedCell) (outlets : List Outlet) 
     word_of_output t j o h = ap (r.word_at run t) (output_in j o h)
 
     holds_at : (t k : ℕ) (x : SizedCell) → t < length run → slice_get cells k ≡ Some x → r.CellHolds x.cell x.width (r.word_at run t k) (r.store_at run t k)
-    unfolding r.word_at r.store_at
-    holds_at t k x l h = net_holds (clock_shaped is t l) k x h
+    holds_at t k x l h = rw (word_got run t k, store_got run t k) (net_holds (clock_shaped is t l) k x h)
 
     net_fits : (t a w : ℕ) → t < length run → c.IsNet cells a w → r.word_at run t a < 2 ^ w
     net_fits t a w l h = subst (λ v. r.word_at run t a < 2 ^ v) h.wide (plain_fits h.sized.cell h.sized.width _ _ h.plain (holds_at t a h.sized l h.found))
@@ -152,7 +153,7 @@ module _ (lines : ℕ → ℕ) (cells : List SizedCell) (outlets : List Outlet) 
     makes t k width l (Op op args) h = is.settles t k _ l h
     makes t k width l (Reg next) h = tt
     makes t k width l (Mem depth at next enable) h = tt
-    makes t k width l (Peek mem at) h = is.settles t k _ l h
+    makes t k width l (Peek mem at) h = is.settles t k _ l h ∙ unwrap_or-slice_get (r.store_at run t mem.0) (r.word_at run t at.0) 0
 
     settled : (t : ℕ) → t < length run → IsSettled (written lines cells outlets outs) (read t)
     settled t l = settled_from lines cells outlets outs ok (read t) (r.word_at run t) (r.store_at run t) (reads t l) (λ k x h. makes t k x.width l x.cell h)

@@ -1,10 +1,11 @@
 -- The value of a cell's equation is what the cell makes of the words of its operands.
 use Rattle.std.proofs.Common.{ℕ, zero, suc, ◌≡◌, ◌==◌, ◌+◌, ◌-◌, ◌*◌, ◌/◌, ◌%◌, ◌^◌, ◌<◌, ◌≤◌, ◌⊎◌, inl, inr, min, max, Bool, true, false, nat_lt, List, [], ◌∷◌, length, get_or, All, Some, slice_get, take, arith, mul_assoc, refl, sym, ap, ◌∙◌, subst}
-use Rattle.std.specs.Prelude.{if◌then◌else◌}
+use Rattle.std.specs.Prelude.{unwrap_or, if◌then◌else◌}
 use Rattle.std.proofs.lemmas.Nat.{pow_pos, pow-add}
 use Rattle.std.proofs.Math.Nat.{mod-eq_of_lt, mul-mod_left, div-eq_of_lt}
 use Rattle.std.proofs.Math.Pow.{pow_mono}
 use Rattle.std.proofs.lemmas.List.Elements.{All-get_or}
+use Rattle.std.proofs.lemmas.Option.{unwrap_or-slice_get}
 use Rattle.ae_netlist.proofs.Gets.{get_from_take}
 use Rattle.std.proofs.lemmas.Bool.{cases_Bool, cond-true, cond-false}
 use Rattle.std.proofs.lemmas.Bool.Decides.{Decides-ltb}
@@ -259,8 +260,9 @@ module _ (lines : ℕ → ℕ) (cells : List SizedCell) (outlets : List Outlet) 
           let word : m.word (net_name lines cells at) ≡ ws at = r.word at _ h.address.net in
           let store : m.store (net_name lines cells mem) ≡ ss mem = r.store mem w h.depth h.memory in
           assigned_is n (index (net_name lines cells mem) (net_value lines cells at)) w w (get_or (ss mem) (ws at) 0) wide own
-          (cond-true _ (get_or (m.store (net_name lines cells mem)) (m.word (net_name lines cells at)) 0)
-          (m.word (net_name lines cells mem) / 2 ^ m.word (net_name lines cells at) % 2) is ∙ (λ i. get_or (store i) (word i) 0))
+          (cond-true _ (unwrap_or (slice_get (m.store (net_name lines cells mem)) (m.word (net_name lines cells at))) 0)
+          (m.word (net_name lines cells mem) / 2 ^ m.word (net_name lines cells at) % 2) is
+          ∙ (unwrap_or-slice_get (m.store (net_name lines cells mem)) (m.word (net_name lines cells at)) 0 ∙ (λ i. get_or (store i) (word i) 0)))
           (fits_or_zero w (ss mem) (ws at) (r.stores mem w h.depth h.memory))
 
       -- what an equation, a register or a memory takes from a net of its width

@@ -1,5 +1,5 @@
 -- When a copy of a netlist stands still in the clocks in which some net is 0.
-use Rattle.std.specs.Prelude.{◌≡◌, ◌≢◌, ℕ, suc, ◌+◌, ◌<◌, ◌≤◌, ◌==◌, Bool, List, [], ◌∷◌, ◌++◌, length, map, take, drop, Some, slice_get, get_or}
+use Rattle.std.specs.Prelude.{◌≡◌, ◌≢◌, ℕ, suc, ◌+◌, ◌<◌, ◌≤◌, ◌==◌, Bool, List, [], ◌∷◌, ◌++◌, length, map, take, drop, Some, slice_get, get_or, unwrap_or}
 use Rattle.std.specs.List.{filter}
 use Rattle.ae_netlist.specs.declared.cell.Cell.{Cell}
 use Rattle.ae_netlist.specs.declared.cell.Cell.TheVariants.{Input, Const, Op, Reg, Mem, Peek}
@@ -11,7 +11,7 @@ use Rattle.ae_stall.specs.Copies.{HaveSameKinds}
 
 -- in this clock the net is 1
 abbrev pub is_one : (net : ℕ) → Clock → Bool
-is_one net c = get_or c.words net 0 == 1
+is_one net c = unwrap_or (slice_get c.words net) 0 == 1
 
 -- the first nets without so many inputs behind the first
 abbrev pub without_inputs : {X : Type 0} → (more count : ℕ) → List X → List X

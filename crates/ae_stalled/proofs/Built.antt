@@ -1,10 +1,10 @@
 -- The module of a stalled circuit keeps the blocks in its enabled clocks.
-use Rattle.std.proofs.Common.{ℕ, suc, ◌≡◌, ◌+◌, ◌*◌, ◌<◌, ◌≤◌, List, [], ◌∷◌, ◌++◌, length, map, take, get_or, Some, slice_get, true, false, arith, refl, ap, sym, ◌∙◌}
-use Rattle.std.specs.Prelude.{codes, ◌==◌}
+use Rattle.std.proofs.Common.{ℕ, suc, ◌≡◌, ◌+◌, ◌*◌, ◌<◌, ◌≤◌, List, [], ◌∷◌, ◌++◌, length, map, take, Option, Some, slice_get, true, false, arith, refl, ap, sym, ◌∙◌}
+use Rattle.std.specs.Prelude.{codes, ◌==◌, unwrap_or}
 use Rattle.std.specs.List.{filter}
-use Rattle.std.proofs.lemmas.List.{length-map, map-append, get_or-map}
+use Rattle.std.proofs.lemmas.List.{length-map, map-append}
 use Rattle.std.proofs.lemmas.Nat.{row_fits}
-use Rattle.std.proofs.lemmas.Option.{slice_get_within, get_or_from_slice_get}
+use Rattle.std.proofs.lemmas.Option.{slice_get_within, unwrap_or-slice_get}
 use Rattle.ae_seqtype.specs.ValueTree.{ValueTree, flat}
 use Rattle.ae_sttype.specs.StTree.{StTree, time}
 use Rattle.ae_netlist.specs.declared.cell.NetId.{NetId}
@@ -17,7 +17,7 @@ use Rattle.std.proofs.lemmas.List.Sums.{count_by-le-length}
 use Rattle.ae_netlist.specs.Circuit.{Circuit}
 use Rattle.ae_netlist.specs.Runs as netlist
 use Rattle.ae_netlist.specs.Runs.{Clock, no_clock, word_at}
-use Rattle.ae_netlist.proofs.Shapes.{clock_shaped}
+use Rattle.ae_netlist.proofs.OrElse.{or_map, shaped_at}
 use Rattle.ae_vmodule.specs.ModuleTree.{ModuleTree}
 use Rattle.ae_runs.specs.Values.{ModuleClock}
 use Rattle.ae_runs.specs.Runs.{IsResetRun, clock_at, idle_clock}
@@ -60,7 +60,7 @@ record IsNamed (many : ℕ) (ports : List SizedPort) (named : List ℕ) : Type 0
   is : named ≡ port_name many port.port
 
 named_in : (ss : List StTree) (q column : ℕ) (s : StTree) → slice_get ss q ≡ Some s → column < length (stream_widths (stream_of s))
-    → IsNamed 1 (reset_port ∷ net_side.input_ports (streams_of ss)) (get_or (map name_of (param_ports q s)) column [])
+    → IsNamed 1 (reset_port ∷ net_side.input_ports (streams_of ss)) (unwrap_or (slice_get (map name_of (param_ports q s)) column) [])
 named_in ss q column s found small =
     let at : ℕ → ℕ → ℕ → Port = λ param lane word. In param lane word in
     let c = column_at 1 false (at q) s column small in
@@ -74,7 +74,7 @@ named_in ss q column s found small =
     }
 
 named_out : (many : ℕ) (rs : List StTree) (q column : ℕ) (s : StTree) → slice_get rs q ≡ Some s → column < length (stream_widths (stream_of s))
-    → IsNamed many (net_side.output_ports (streams_of rs)) (get_or (map name_of (result_ports many q s)) column [])
+    → IsNamed many (net_side.output_ports (streams_of rs)) (unwrap_or (slice_get (map name_of (result_ports many q s)) column) [])
 named_out many rs q column s found small =
     let at : ℕ → ℕ → ℕ → Port = λ result lane word. Out result lane word in
     let c = column_at many true (at q) s column small in
@@ -117,11 +117,11 @@ module _ (lines : ℕ → ℕ) (p : ProgramTree) (slowdown : ℕ) (costs : OwnCo
         ap (λ (l : List SizedPort). length l) old_ports.outputs,
         length-map n.outlets (outlet_port n.cells),
       )) in
-      let left : outlet_net n.outlets k ≡ o.0.net.0 = ap (λ (x : NetId). x.0)
-      (get_or_from_slice_get (map net_of n.outlets) k o.0.net (record { 0 = 0 }) (mapped_at net_of n.outlets k o.0 o.1)) in
+      let left : outlet_net n.outlets k ≡ o.0.net.0 = ap (λ (x : Option NetId). (unwrap_or x (record { 0 = 0 })).0)
+      (mapped_at net_of n.outlets k o.0 o.1) in
       let right : outlet_net (map moved_outlet n.outlets) k ≡ renumbered o.0.net.0 =
-      ap (λ (x : NetId). x.0) (get_or_from_slice_get (map net_of (map moved_outlet n.outlets)) k (moved_outlet o.0).net (record { 0 = 0 })
-      (mapped_at net_of (map moved_outlet n.outlets) k (moved_outlet o.0) (mapped_at moved_outlet n.outlets k o.0 o.1))) in
+      ap (λ (x : Option NetId). (unwrap_or x (record { 0 = 0 })).0)
+      (mapped_at net_of (map moved_outlet n.outlets) k (moved_outlet o.0) (mapped_at moved_outlet n.outlets k o.0 o.1)) in
       let net = c.shown.each k o.0 o.1 in
       let low : o.0.net.0 < length n.cells = slice_get_within n.cells o.0.net.0 net.sized net.found in
       (omega (arith, left), ap (λ (l : List Outlet). outlet_net l k) still.outputs ∙ (right ∙ ap renumbered (sym left)))
@@ -135,7 +135,7 @@ module _ (lines : ℕ → ℕ) (p : ProgramTree) (slowdown : ℕ) (costs : OwnCo
     abbrev part : List Clock
     part = enabled_part (length n.cells) other
 
-    tests : (t : ℕ) → t < length run → ((clock_at run t).word enable_name == 1) ≡ is_enabled (get_or other t no_clock)
+    tests : (t : ℕ) → t < length run → ((clock_at run t).word enable_name == 1) ≡ is_enabled (unwrap_or (slice_get other t) no_clock)
     unfolding word_at
     tests t l = ap (λ x. x == 1) (input_alike lines new many (reset_port ∷ enable_port ∷ net_side.input_ports (streams_of ins))
         (outs_of outs) new_ports run other alike t 1 enable_port l refl)
@@ -152,7 +152,7 @@ module _ (lines : ℕ → ℕ) (p : ProgramTree) (slowdown : ℕ) (costs : OwnCo
       place : ℕ
       within : place < length run
       left : clock_at run place ≡ clock_at clocks t
-      right : get_or part t no_clock ≡ clock_without (length n.cells) (get_or other place no_clock)
+      right : unwrap_or (slice_get part t) no_clock ≡ clock_without (length n.cells) (unwrap_or (slice_get other place) no_clock)
 
     there : (t : ℕ) → t < length clocks → IsThere t
     unfolding enabled_clocks enabled_part
@@ -162,15 +162,17 @@ module _ (lines : ℕ → ℕ) (p : ProgramTree) (slowdown : ℕ) (costs : OwnCo
           place = q.at;
           within = q.within;
           left = q.left;
-          right = get_or-map (clock_without (length n.cells)) (filter is_enabled other) t no_clock no_clock (omega (arith, pairs.long)) ∙
+          right = or_map (clock_without (length n.cells)) (filter is_enabled other) t no_clock no_clock (omega (arith, pairs.long)) ∙
               ap (clock_without (length n.cells)) (sym q.right);
         }
 
     word_there : (t k : ℕ) (h : IsThere t) → k < length n.cells → word_at part t k ≡ word_at other h.place (renumbered k)
     unfolding word_at
     word_there t k h l =
-        let shaped = clock_shaped is_run h.place (let b = h.within in omega (arith, alike.long)) in
-        rw h.right (without_at (length n.cells) (get_or other h.place no_clock).words k 0 l (omega (arith, shaped.words, still.longer)))
+        let shaped = shaped_at is_run h.place (let b = h.within in omega (arith, alike.long)) in
+        let whole : Clock = unwrap_or (slice_get other h.place) no_clock in
+        rw h.right (unwrap_or-slice_get (clock_without (length n.cells) whole).words k 0
+        ∙ without_at (length n.cells) whole.words k 0 l (omega (arith, shaped.words, still.longer)) ∙ sym (unwrap_or-slice_get whole.words (renumbered k) 0))
 
     -- ---- a run of the module without the enable
 
@@ -217,7 +219,7 @@ module _ (lines : ℕ → ℕ) (p : ProgramTree) (slowdown : ℕ) (costs : OwnCo
             let fill : IsFilling slowdown t = ins_filling p slowdown ins outs laid q t found in
             holds_alike k t (wave r start (param_ports q t)) (wave clocks start (param_ports q t)) (flat (at block q)) fill.size
             (λ clock column low high small.
-            (let name : IsNamed 1 (ins_of ins) (get_or (map name_of (param_ports q t)) column []) = named_in ins q column t found small in
+            (let name : IsNamed 1 (ins_of ins) (unwrap_or (slice_get (map name_of (param_ports q t)) column) []) = named_in ins q column t found small in
             let full : time t ≡ slowdown = fill.time in
             ap (clock_at r (start + clock)).word name.is ∙ (in_word (start + clock) name.place name.port (omega (arith, full)) name.there ∙
             ap (clock_at clocks (start + clock)).word (sym name.is))))
@@ -231,10 +233,10 @@ module _ (lines : ℕ → ℕ) (p : ProgramTree) (slowdown : ℕ) (costs : OwnCo
             let fill : IsFilling slowdown t = outs_filling p slowdown ins outs laid q t found in
             holds_alike k t (wave clocks start (result_ports (length outs) q t)) (wave r start (result_ports (length outs) q t)) (flat (at values q)) fill.size
             (λ clock column low high small.
-            (let name : IsNamed (length outs) (outs_of outs) (get_or (map name_of (result_ports (length outs) q t)) column []) = named_out
+            (let name : IsNamed (length outs) (outs_of outs) (unwrap_or (slice_get (map name_of (result_ports (length outs) q t)) column) []) = named_out
             (length outs) outs q column t found small in
             let full : time t ≡ slowdown = fill.time in
-            let named : get_or (map name_of (result_ports (length outs) q t)) column [] ≡ port_name many name.port.port = name.is in
+            let named : unwrap_or (slice_get (map name_of (result_ports (length outs) q t)) column) [] ≡ port_name many name.port.port = name.is in
             ap (clock_at clocks (start + clock)).word named ∙ (sym (out_word (start + clock) name.place name.port (omega (arith, full)) name.there) ∙
             ap (clock_at r (start + clock)).word (sym named))))
             (held.each q t found);

@@ -1,9 +1,10 @@
 -- The first cells of a run of a netlist that extends another are a run of that one.
-use Rattle.std.proofs.Common.{ℕ, ◌≡◌, ◌+◌, ◌<◌, ◌≤◌, inl, inr, List, [], length, length-take, map, take, Some, slice_get, get_or, Bool, true, false, arith, refl, ap, sym, ◌∙◌, subst}
-use Rattle.std.specs.Prelude.{◌==◌, if◌then◌else◌, slice_set}
+use Rattle.std.proofs.Common.{ℕ, ◌≡◌, ◌+◌, ◌<◌, ◌≤◌, inl, inr, List, [], length, length-take, map, take, Some, slice_get, Bool, true, false, arith, refl, ap, sym, ◌∙◌, subst}
+use Rattle.std.specs.Prelude.{unwrap_or, ◌==◌, if◌then◌else◌, slice_set}
 use Rattle.std.proofs.lemmas.Bool.{eq-eqb}
-use Rattle.std.proofs.lemmas.List.{get_or-map, get_or-take, length-map}
-use Rattle.std.proofs.lemmas.Option.{slice_get_within}
+use Rattle.std.proofs.lemmas.List.{get_or-take, length-map}
+use Rattle.std.proofs.lemmas.Option.{slice_get_within, unwrap_or-slice_get}
+use Rattle.ae_netlist.proofs.OrElse.{or_map, or_take, shaped_at}
 use Rattle.ae_word.specs.declared.op.WordOp.{WordOp}
 use Rattle.ae_word.specs.declared.op.WordOp.TheVariants.{Mux}
 use Rattle.ae_netlist.specs.declared.cell.NetId.{NetId}
@@ -15,7 +16,7 @@ use Rattle.ae_netlist.specs.Runs.{Clock, no_clock, word_at, store_at, IsShaped, 
 use Rattle.ae_netlist.proofs.Gets.{get_from_take, get_take_within}
 use Rattle.ae_netlist.proofs.Growing.{extends_length, width_is}
 use Rattle.ae_netlist.proofs.Settled.{each_operand}
-use Rattle.ae_netlist.proofs.Shapes.{clock_shaped, each_shaped, cell_holds, each_holds}
+use Rattle.ae_netlist.proofs.Shapes.{each_shaped, cell_holds, each_holds}
 use Rattle.ae_stream.specs.Inside.{first_nets}
 
 -- what holds of both first operands holds of the main one
@@ -30,16 +31,16 @@ module _ (old all : List SizedCell) (formed : IsFormed old) (e : Extends old all
   size : length part ≡ length run
   size = length-map run (first_nets (length old))
 
-  place : (t : ℕ) → t < length run → get_or part t no_clock ≡ first_nets (length old) (get_or run t no_clock)
-  place t l = get_or-map (first_nets (length old)) run t no_clock no_clock l
+  place : (t : ℕ) → t < length run → unwrap_or (slice_get part t) no_clock ≡ first_nets (length old) (unwrap_or (slice_get run t) no_clock)
+  place t l = or_map (first_nets (length old)) run t no_clock no_clock l
 
   word : (t n : ℕ) → t < length run → n < length old → word_at part t n ≡ word_at run t n
   unfolding word_at
-  word t n l b = rw (place t l) (get_or-take (length old) (get_or run t no_clock).words n 0 b)
+  word t n l b = rw (place t l) (or_take (length old) (unwrap_or (slice_get run t) no_clock).words n 0 b)
 
   store : (t n : ℕ) → t < length run → n < length old → store_at part t n ≡ store_at run t n
   unfolding store_at
-  store t n l b = rw (place t l) (get_or-take (length old) (get_or run t no_clock).stores n [] b)
+  store t n l b = rw (place t l) (or_take (length old) (unwrap_or (slice_get run t) no_clock).stores n [] b)
 
   within : (n w : ℕ) → IsNet old n w → n < length old
   within n w h = slice_get_within old n h.sized h.found
@@ -47,10 +48,10 @@ module _ (old all : List SizedCell) (formed : IsFormed old) (e : Extends old all
   same_width : (n : ℕ) (sized : SizedCell) → slice_get old n ≡ Some sized → width_of old n ≡ width_of all n
   same_width n sized h = width_is old n sized h ∙ sym (width_is all n sized (e.keeps n sized h))
 
-  shaped : (t : ℕ) → t < length run → IsShaped old (get_or part t no_clock)
+  shaped : (t : ℕ) → t < length run → IsShaped old (unwrap_or (slice_get part t) no_clock)
   shaped t l =
-      let c : Clock = get_or run t no_clock in
-      let s : IsShaped all c = clock_shaped r t l in
+      let c : Clock = unwrap_or (slice_get run t) no_clock in
+      let s : IsShaped all c = shaped_at r t l in
       let many : length old ≤ length all = extends_length old all e in
       let cut : IsShaped old (first_nets (length old) c) = record {
         words = omega (arith, s.words, many, length-take (length old) c.words);
@@ -122,7 +123,7 @@ module _ (old all : List SizedCell) (formed : IsFormed old) (e : Extends old all
 
   pub first_run : IsRun old part
   first_run = record {
-    shaped = each_shaped old part (λ t l. shaped t (omega (arith, size)));
+    shaped = each_shaped old part (λ t l. subst (IsShaped old) (unwrap_or-slice_get part t no_clock) (shaped t (omega (arith, size))));
     settles = λ t n sized l h. settles t n sized.width sized.cell (omega (arith, size)) h (formed.each n sized h).cell
         (r.settles t n sized (omega (arith, size)) (e.keeps n sized h));
     steps = λ t n sized l h. steps t n sized.width sized.cell (omega (arith, size)) (slice_get_within old n sized h) (formed.each n sized h).cell

@@ -1,6 +1,6 @@
 -- Results of whole blocks come out where the sink takes and the source does not stop inside a block.
-use Rattle.std.proofs.Common.{ℕ, zero, suc, ◌≡◌, ◌+◌, ◌-◌, ◌*◌, ◌/◌, ◌%◌, ◌<◌, ◌≤◌, inl, inr, List, length, drop, get_or, Bool, true, false, arith, refl, ap, sym, ◌∙◌, subst}
-use Rattle.std.specs.Prelude.{◌&&◌, ◌||◌, ◌==◌, not, if◌then◌else◌}
+use Rattle.std.proofs.Common.{ℕ, zero, suc, ◌≡◌, ◌+◌, ◌-◌, ◌*◌, ◌/◌, ◌%◌, ◌<◌, ◌≤◌, inl, inr, List, length, drop, Bool, true, false, arith, refl, ap, sym, ◌∙◌, subst}
+use Rattle.std.specs.Prelude.{slice_get, unwrap_or, ◌&&◌, ◌||◌, ◌==◌, not, if◌then◌else◌}
 use Rattle.std.proofs.lemmas.Bool.{cases_lt, eq-eqb, eqb-true}
 use Rattle.std.proofs.lemmas.Nat.{div-add-mod', div-mul-add, mod-mul-add, mod_below}
 use Rattle.ae_sttype.specs.StTree.{StTree}
@@ -51,7 +51,7 @@ module _ (x : Control) (g : Gates) (row : Row) (ends : Ends) (run : List Clock) 
   rest = drop start run
 
   abbrev at : ℕ → Clock
-  at t = get_or rest t no_clock
+  at t = unwrap_or (slice_get rest t) no_clock
 
   abbrev goes : ℕ → Bool
   goes t = bit x.enable (at t)
@@ -134,7 +134,7 @@ module _ (x : Control) (g : Gates) (row : Row) (ends : Ends) (run : List Clock) 
   here_at t l y =
       let s = step_at x g row ends run start slowdown q r inputs outputs h shown t l y in
       let e : stepped t / slowdown * slowdown + stepped t % slowdown ≡ stepped t = cut (stepped t) in
-      sym (ap (bit x.here) s.1) ∙ (ap (λ k. bit x.here (get_or (steps x start run) k no_clock)) (sym e)
+      sym (ap (bit x.here) s.1) ∙ (ap (λ k. bit x.here (unwrap_or (slice_get (steps x start run) k) no_clock)) (sym e)
       ∙ here_is x ends run start slowdown (q * slowdown + r) inputs outputs control (stepped t / slowdown) (stepped t % slowdown) (low (stepped t)) (rw e s.0))
 
   next_block : (n : ℕ) → n % slowdown ≡ slowdown - 1 → suc n / slowdown ≡ suc (n / slowdown)

@@ -1,11 +1,13 @@
 -- The circuit inside is the first cells of the netlist of which a copy is held.
-use Rattle.std.proofs.Common.{ℕ, ◌≡◌, ◌+◌, ◌<◌, ◌≤◌, ◌++◌, List, [], ◌∷◌, length, map, take, drop, get_or, arith, refl, ap, sym, ◌∙◌, subst}
+use Rattle.std.specs.Prelude.{slice_get, unwrap_or}
+use Rattle.std.proofs.Common.{ℕ, ◌≡◌, ◌+◌, ◌<◌, ◌≤◌, ◌++◌, List, [], ◌∷◌, length, map, take, drop, arith, refl, ap, sym, ◌∙◌, subst}
 use Rattle.std.specs.List.{filter}
 use Rattle.std.proofs.lemmas.List.{take-take}
+use Rattle.std.proofs.lemmas.Option.{unwrap_or-slice_get}
+use Rattle.ae_netlist.proofs.OrElse.{shaped_at}
 use Rattle.ae_netlist.specs.Circuit.{Circuit}
 use Rattle.ae_netlist.specs.Runs.{Clock, no_clock, IsRun, IsShaped}
 use Rattle.ae_netlist.proofs.Growing.{extends_length}
-use Rattle.ae_netlist.proofs.Shapes.{clock_shaped}
 use Rattle.ae_rewrite.specs.Blocks.{outlet_net}
 use Rattle.ae_stall.specs.Images.{placed}
 use Rattle.ae_stall.specs.Held.{held_part, inner_clock, without_inputs}
@@ -43,17 +45,21 @@ module _ (x : Control) (ends : Ends) (n marked copied new : Circuit) (h : IsHeld
   runs : IsRun n.cells (map inner (filter (bit x.enable) run))
   runs = subst (IsRun n.cells) all_cut (first_run n.cells marked.cells h.formed h.first (held_part 2 x.enable (length marked.cells) run) (h.held.runs run r))
 
-  word : (t k : ℕ) → t < length run → k < length n.cells → word_in k (inner (get_or run t no_clock)) ≡ word_in (placed 2 k) (get_or run t no_clock)
+  word : (t k : ℕ) → t < length run → k < length n.cells
+      → word_in k (inner (unwrap_or (slice_get run t) no_clock)) ≡ word_in (placed 2 k) (unwrap_or (slice_get run t) no_clock)
   word t k l b =
-      let s : IsShaped new.cells (get_or run t no_clock) = clock_shaped r t l in
-      without_inputs_at 2 (length n.cells) (get_or run t no_clock).words k 0 b (omega (arith, s.words, h.held.longer, h.longer, many))
+      let s : IsShaped new.cells (unwrap_or (slice_get run t) no_clock) = shaped_at r t l in
+      let words : List ℕ = (unwrap_or (slice_get run t) no_clock).words in
+      unwrap_or-slice_get (without_inputs 2 (length n.cells) words) k 0
+      ∙ (without_inputs_at 2 (length n.cells) words k 0 b (omega (arith, s.words, h.held.longer, h.longer, many))
+      ∙ sym (unwrap_or-slice_get words (placed 2 k) 0))
 
   pub inside : IsInside x ends n inner run
   inside = record {
     runs = runs;
     parts = λ t l. record {
       reset = word t 0 l h.some;
-      ins = λ q b. (let i = h.ins q b in word t (1 + q) l i.0 ∙ ap (λ k. word_in k (get_or run t no_clock)) (sym i.1));
-      outs = λ q b. (let o = h.outs q b in word t (outlet_net n.outlets q) l o.0 ∙ ap (λ k. word_in k (get_or run t no_clock)) (sym o.1));
+      ins = λ q b. (let i = h.ins q b in word t (1 + q) l i.0 ∙ ap (λ k. word_in k (unwrap_or (slice_get run t) no_clock)) (sym i.1));
+      outs = λ q b. (let o = h.outs q b in word t (outlet_net n.outlets q) l o.0 ∙ ap (λ k. word_in k (unwrap_or (slice_get run t) no_clock)) (sym o.1));
     };
   }

@@ -1,7 +1,8 @@
 -- What a control says at its ports is settled by the clocks before.
-use Rattle.std.proofs.Common.{ℕ, zero, suc, ◌≡◌, ◌+◌, ◌-◌, ◌%◌, ◌<◌, ◌≤◌, List, length, drop, take, get_or, Bool, true, false, arith, refl, ap, sym, ◌∙◌}
-use Rattle.std.specs.Prelude.{◌&&◌, ◌||◌, ◌==◌, not, if◌then◌else◌}
-use Rattle.std.proofs.lemmas.List.{get_or-drop, get_or-take, length-drop}
+use Rattle.std.proofs.Common.{ℕ, zero, suc, ◌≡◌, ◌+◌, ◌-◌, ◌%◌, ◌<◌, ◌≤◌, List, length, drop, take, Bool, true, false, arith, refl, ap, sym, ◌∙◌}
+use Rattle.std.specs.Prelude.{slice_get, unwrap_or, ◌&&◌, ◌||◌, ◌==◌, not, if◌then◌else◌}
+use Rattle.std.proofs.lemmas.List.{length-drop}
+use Rattle.ae_netlist.proofs.OrElse.{or_drop, or_take}
 use Rattle.ae_sttype.specs.StTree.{StTree}
 use Rattle.ae_netlist.specs.Runs.{Clock, no_clock, word_at}
 use Rattle.ae_stream.specs.Passing.{one_if, passing}
@@ -33,23 +34,23 @@ module _ (x : Control) (g : Gates) (row : Row) (ends : Ends) (wanted wait : ℕ)
     (hb : IsComplete x g row ends wanted q wait b start slowdown r inputs outputs) where
   module _ (t : ℕ) (from : start ≤ t) (la : t < length a) (lb : t < length b) (same : take t a ≡ take t b) where
     abbrev here : Clock
-    here = get_or a t no_clock
+    here = unwrap_or (slice_get a t) no_clock
 
     abbrev there : Clock
-    there = get_or b t no_clock
+    there = unwrap_or (slice_get b t) no_clock
 
-    before : (k : ℕ) → k < t → get_or a k no_clock ≡ get_or b k no_clock
-    before k l = sym (get_or-take t a k no_clock l) ∙ (ap (λ c. get_or c k no_clock) same ∙ get_or-take t b k no_clock l)
+    before : (k : ℕ) → k < t → unwrap_or (slice_get a k) no_clock ≡ unwrap_or (slice_get b k) no_clock
+    before k l = sym (or_take t a k no_clock l) ∙ (ap (λ c. unwrap_or (slice_get c k) no_clock) same ∙ or_take t b k no_clock l)
 
     -- what is made of the clock before
     from_last : {A : Type 0} (part f : Clock → A) → FromEach (λ c next. part next ≡ f c) a → FromEach (λ c next. part next ≡ f c) b → part here ≡ part there
     from_last part f fa fb =
         let e : t - 1 + 1 ≡ t = omega (arith, some, from) in
-        ap (λ k. part (get_or a k no_clock)) (sym e)
+        ap (λ k. part (unwrap_or (slice_get a k) no_clock)) (sym e)
         ∙ (fa (t - 1) (omega (arith, e, la))
         ∙ (ap f (before (t - 1) (omega (arith, e)))
         ∙ (sym (fb (t - 1) (omega (arith, e, lb)))
-        ∙ ap (λ k. part (get_or b k no_clock)) e)))
+        ∙ ap (λ k. part (unwrap_or (slice_get b k) no_clock)) e)))
 
     abbrev ones : Clock → Bool
     ones c = next_one (bit x.one c) (bit x.two c) (is_put x c) (is_transfer ends.sink c)
@@ -77,18 +78,19 @@ module _ (x : Control) (g : Gates) (row : Row) (ends : Ends) (wanted wait : ℕ)
     back = omega (arith, from)
 
     steps_same : steps_before x start a (t - start) ≡ steps_before x start b (t - start)
-    steps_same = passing_same (λ k. bit x.enable (get_or (drop start a) k no_clock)) (λ k. bit x.enable (get_or (drop start b) k no_clock)) (t - start)
-        (λ k l. ap (bit x.enable) (get_or-drop start a k no_clock ∙ (before (start + k) (omega (arith, l, from)) ∙ sym (get_or-drop start b k no_clock))))
+    steps_same = passing_same (λ k. bit x.enable (unwrap_or (slice_get (drop start a) k) no_clock))
+        (λ k. bit x.enable (unwrap_or (slice_get (drop start b) k) no_clock)) (t - start)
+        (λ k l. ap (bit x.enable) (or_drop start a k no_clock ∙ (before (start + k) (omega (arith, l, from)) ∙ sym (or_drop start b k no_clock))))
 
     mark_same : (y : ℕ) (number : ℕ → Bool) → BySteps x start a (bit y) number → BySteps x start b (bit y) number → bit y here ≡ bit y there
     mark_same y number fa fb =
-        ap (λ k. bit y (get_or a k no_clock)) (sym back)
-        ∙ (ap (bit y) (sym (get_or-drop start a (t - start) no_clock))
+        ap (λ k. bit y (unwrap_or (slice_get a k) no_clock)) (sym back)
+        ∙ (ap (bit y) (sym (or_drop start a (t - start) no_clock))
         ∙ (fa (t - start) (omega (arith, length-drop start a, from, la))
         ∙ (ap number steps_same
         ∙ (sym (fb (t - start) (omega (arith, length-drop start b, from, lb)))
-        ∙ (ap (bit y) (get_or-drop start b (t - start) no_clock)
-        ∙ ap (λ k. bit y (get_or b k no_clock)) back)))))
+        ∙ (ap (bit y) (or_drop start b (t - start) no_clock)
+        ∙ ap (λ k. bit y (unwrap_or (slice_get b k) no_clock)) back)))))
 
     first_same : bit g.first here ≡ bit g.first there
     first_same = mark_same g.first (λ n. n % slowdown == 0) ha.marked.first hb.marked.first
@@ -116,6 +118,7 @@ module _ (x : Control) (g : Gates) (row : Row) (ends : Ends) (wanted wait : ℕ)
         same_bits (word_at a t ends.source.ready) (word_at b t ends.source.ready) (ha.asks t la) (hb.asks t lb) (asks_same t from la lb same);
     stands = λ t from la lb same.
         same_bits (word_at a t ends.sink.valid) (word_at b t ends.sink.valid) (ha.stands t la) (hb.stands t lb)
-        (ap (λ k. bit k (get_or a t no_clock)) ha.wired.valid ∙ (one_same t from la lb same ∙ ap (λ k. bit k (get_or b t no_clock)) (sym ha.wired.valid)));
+        (ap (λ k. bit k (unwrap_or (slice_get a t) no_clock)) ha.wired.valid ∙
+        (one_same t from la lb same ∙ ap (λ k. bit k (unwrap_or (slice_get b t) no_clock)) (sym ha.wired.valid)));
     words = λ k l t from la lb same. word_same t from la lb same k l;
   }

@@ -1,6 +1,6 @@
 -- Where both ends always go, each clock is a step.
-use Rattle.std.proofs.Common.{ℕ, zero, suc, ◌≡◌, ◌+◌, ◌-◌, ◌*◌, ◌/◌, ◌%◌, ◌<◌, ◌≤◌, inl, inr, List, length, drop, get_or, Bool, true, false, arith, refl, ap, sym, ◌∙◌}
-use Rattle.std.specs.Prelude.{◌&&◌, ◌||◌, nat_lt, not, if◌then◌else◌}
+use Rattle.std.proofs.Common.{ℕ, zero, suc, ◌≡◌, ◌+◌, ◌-◌, ◌*◌, ◌/◌, ◌%◌, ◌<◌, ◌≤◌, inl, inr, List, length, drop, Bool, true, false, arith, refl, ap, sym, ◌∙◌}
+use Rattle.std.specs.Prelude.{slice_get, unwrap_or, ◌&&◌, ◌||◌, nat_lt, not, if◌then◌else◌}
 use Rattle.std.proofs.lemmas.Nat.{div-add-mod', mod-mul-add}
 use Rattle.std.proofs.lemmas.Bool.{cases_lt, eq-eqb}
 use Rattle.ae_sttype.specs.StTree.{StTree}
@@ -45,17 +45,17 @@ and_true false b e = refl
 module _ (x : Control) (g : Gates) (row : Row) (ends : Ends) (run : List Clock) (start slowdown q r : ℕ) (inputs outputs : List StTree)
     (h : IsDriven x g row ends run start slowdown q r inputs outputs) (shown : ends.sink.valid ≡ x.one)
     (some : 0 < slowdown) (small : r < slowdown) (upto : ℕ) (within : upto < length (drop start run))
-    (offers : (u : ℕ) → u < upto → bit ends.source.valid (get_or (drop start run) u no_clock) ≡ true)
-    (takes : (u : ℕ) → u < upto → bit ends.sink.ready (get_or (drop start run) u no_clock) ≡ true) where
-  free : (t : ℕ) → t ≤ upto → bit x.two (get_or (drop start run) t no_clock) ≡ false
-  free zero l = none_second (bit x.one (get_or (drop start run) 0 no_clock)) (bit x.two (get_or (drop start run) 0 no_clock))
+    (offers : (u : ℕ) → u < upto → bit ends.source.valid (unwrap_or (slice_get (drop start run) u) no_clock) ≡ true)
+    (takes : (u : ℕ) → u < upto → bit ends.sink.ready (unwrap_or (slice_get (drop start run) u) no_clock) ≡ true) where
+  free : (t : ℕ) → t ≤ upto → bit x.two (unwrap_or (slice_get (drop start run) t) no_clock) ≡ false
+  free zero l = none_second (bit x.one (unwrap_or (slice_get (drop start run) 0) no_clock)) (bit x.two (unwrap_or (slice_get (drop start run) 0) no_clock))
       (fair x g row ends run start slowdown q r inputs outputs h shown 0 (omega arith)).second (h.empty (omega arith))
-  free (suc t) l = (let e : suc t ≡ t + 1 = omega arith in ap (λ k. bit x.two (get_or (drop start run) k no_clock)) e ∙
+  free (suc t) l = (let e : suc t ≡ t + 1 = omega arith in ap (λ k. bit x.two (unwrap_or (slice_get (drop start run) k) no_clock)) e ∙
       room x g row ends run start slowdown q r inputs outputs h shown t (omega arith) (takes t (omega arith)))
 
-  on : (t : ℕ) → t < upto → bit x.enable (get_or (drop start run) t no_clock) ≡ true
+  on : (t : ℕ) → t < upto → bit x.enable (unwrap_or (slice_get (drop start run) t) no_clock) ≡ true
   on t l =
-      let c : Clock = get_or (drop start run) t no_clock in
+      let c : Clock = unwrap_or (slice_get (drop start run) t) no_clock in
       is_on x g row ends run start slowdown q r inputs outputs h shown t (omega arith) (free t (omega (arith, l)))
       (ap (λ v. may_go (bit g.first c) v (bit g.busy c) (bit x.takes c) (bit g.current c)) (offers t l) ∙
       offered (bit g.first c) (bit g.busy c) (bit x.takes c) (bit g.current c))
@@ -67,47 +67,52 @@ module _ (x : Control) (g : Gates) (row : Row) (ends : Ends) (run : List Clock) 
       (counts_on x g row ends run start slowdown q r inputs outputs h shown 0 upto (λ u a b. on u (omega arith)) t l ∙ e)
 
   -- what the steps have by their number, each clock has
-  each : (pass : Clock → Bool) (says : ℕ → Bool) → ((t : ℕ) → t < length (steps x start run) → pass (get_or (steps x start run) t no_clock) ≡ says t) → (t : ℕ)
-      → t < upto → pass (get_or (drop start run) t no_clock) ≡ says t
+  each : (pass : Clock → Bool) (says : ℕ → Bool) → ((t : ℕ) → t < length (steps x start run)
+      → pass (unwrap_or (slice_get (steps x start run) t) no_clock) ≡ says t) → (t : ℕ)
+      → t < upto → pass (unwrap_or (slice_get (drop start run) t) no_clock) ≡ says t
   each pass says h' t l = by_step x g row ends run start slowdown q r inputs outputs h shown pass says h' t (omega arith) (on t l) ∙
       ap says (number t (omega (arith, l)))
 
-  begins : bit g.first (get_or (drop start run) 0 no_clock) ≡ true
+  begins : bit g.first (unwrap_or (slice_get (drop start run) 0) no_clock) ≡ true
   begins =
       let z : 0 % slowdown ≡ 0 = (let e : 0 * slowdown + 0 ≡ 0 = omega arith in ap (λ k. k % slowdown) (sym e) ∙ mod-mul-add 0 slowdown 0 some) in
       h.first 0 (omega (arith, within)) ∙ eq-eqb (0 % slowdown) 0 z
 
   -- behind a clock in which the block is real
-  goes_on : (t : ℕ) → t < upto → bit x.here (get_or (drop start run) t no_clock) ≡ true → bit g.current (get_or (drop start run) (suc t) no_clock) ≡ true
+  goes_on : (t : ℕ) → t < upto → bit x.here (unwrap_or (slice_get (drop start run) t) no_clock) ≡ true
+      → bit g.current (unwrap_or (slice_get (drop start run) (suc t)) no_clock) ≡ true
   goes_on t l is =
-      let before : Clock = get_or (drop start run) t no_clock in
+      let before : Clock = unwrap_or (slice_get (drop start run) t) no_clock in
       let e : suc t ≡ t + 1 = omega arith in
-      ap (λ k. bit g.current (get_or (drop start run) k no_clock)) e ∙
+      ap (λ k. bit g.current (unwrap_or (slice_get (drop start run) k) no_clock)) e ∙
       (h.current.each t (omega (arith, l, within)) ∙ (ap (λ v. if v then bit x.here before else bit g.current before) (on t l) ∙ is))
 
-  here : (t : ℕ) → t < upto → bit x.here (get_or (drop start run) t no_clock) ≡ true
-  here zero l = (h.gates 0 (omega (arith, within))).here ∙ (λ i. if begins i then offers 0 l i else bit g.current (get_or (drop start run) 0 no_clock))
+  here : (t : ℕ) → t < upto → bit x.here (unwrap_or (slice_get (drop start run) t) no_clock) ≡ true
+  here zero l = (h.gates 0 (omega (arith, within))).here ∙
+      (λ i. if begins i then offers 0 l i else bit g.current (unwrap_or (slice_get (drop start run) 0) no_clock))
   here (suc t) l =
-      let c : Clock = get_or (drop start run) (suc t) no_clock in
+      let c : Clock = unwrap_or (slice_get (drop start run) (suc t)) no_clock in
       (h.gates (suc t) (omega (arith, l, within))).here
       ∙ stays_here (bit g.first c) (bit ends.source.valid c) (bit g.current c) (offers (suc t) l) (goes_on t (omega (arith, l)) (here t (omega (arith, l))))
 
   -- a block begins or goes on
-  either : (t : ℕ) → t ≤ upto → (bit g.first (get_or (drop start run) t no_clock) || bit g.current (get_or (drop start run) t no_clock)) ≡ true
-  either zero l = ap (λ v. v || bit g.current (get_or (drop start run) 0 no_clock)) begins
-  either (suc t) l = ap (λ v. bit g.first (get_or (drop start run) (suc t) no_clock) || v) (goes_on t (omega (arith, l)) (here t (omega (arith, l)))) ∙
-      or_true (bit g.first (get_or (drop start run) (suc t) no_clock))
+  either : (t : ℕ) → t ≤ upto → (bit g.first (unwrap_or (slice_get (drop start run) t) no_clock) || bit g.current
+      (unwrap_or (slice_get (drop start run) t) no_clock)) ≡ true
+  either zero l = ap (λ v. v || bit g.current (unwrap_or (slice_get (drop start run) 0) no_clock)) begins
+  either (suc t) l = ap (λ v. bit g.first (unwrap_or (slice_get (drop start run) (suc t)) no_clock) || v)
+      (goes_on t (omega (arith, l)) (here t (omega (arith, l)))) ∙
+      or_true (bit g.first (unwrap_or (slice_get (drop start run) (suc t)) no_clock))
 
   real : (b : ℕ) → b * slowdown < upto → is_real x start slowdown run b ≡ true
   unfolding is_real
   real b l =
       let s = step_at x g row ends run start slowdown q r inputs outputs h shown (b * slowdown) (omega (arith, l, within)) (on (b * slowdown) l) in
-      ap (λ k. bit x.here (get_or (steps x start run) k no_clock)) (sym (number (b * slowdown) (omega (arith, l)))) ∙
+      ap (λ k. bit x.here (unwrap_or (slice_get (steps x start run) k) no_clock)) (sym (number (b * slowdown) (omega (arith, l)))) ∙
       (ap (bit x.here) s.1 ∙ here (b * slowdown) l)
 
-  pub source_in_step : bit ends.source.ready (get_or (drop start run) upto no_clock) ≡ is_beat inputs (upto % slowdown)
+  pub source_in_step : bit ends.source.ready (unwrap_or (slice_get (drop start run) upto) no_clock) ≡ is_beat inputs (upto % slowdown)
   source_in_step =
-      let c : Clock = get_or (drop start run) upto no_clock in
+      let c : Clock = unwrap_or (slice_get (drop start run) upto) no_clock in
       let last : upto ≤ upto = omega arith in
       (h.gates upto within).ready
       ∙ (ap (λ v. not v && (bit x.takes c && (bit g.first c || bit g.current c))) (free upto last)
@@ -116,10 +121,10 @@ module _ (x : Control) (g : Gates) (row : Row) (ends : Ends) (run : List Clock) 
 
   -- a clock later
   next_in_step : (t : ℕ) → t < upto → bit ends.sink.valid
-      (get_or (drop start run) (t + 1) no_clock) ≡ (not (nat_lt t (q * slowdown + r)) && is_beat outputs ((t - (q * slowdown + r)) % slowdown))
+      (unwrap_or (slice_get (drop start run) (t + 1)) no_clock) ≡ (not (nat_lt t (q * slowdown + r)) && is_beat outputs ((t - (q * slowdown + r)) % slowdown))
   next_in_step t l =
-      let c : Clock = get_or (drop start run) t no_clock in
-      let next : Clock = get_or (drop start run) (t + 1) no_clock in
+      let c : Clock = unwrap_or (slice_get (drop start run) t) no_clock in
+      let next : Clock = unwrap_or (slice_get (drop start run) (t + 1)) no_clock in
       let latency : ℕ = q * slowdown + r in
       let cut : (t - latency) / slowdown * slowdown + (t - latency) % slowdown ≡ t - latency = div-add-mod' (t - latency) slowdown in
       let yes : is_real x start slowdown run ((t - latency) / slowdown) ≡ true = real ((t - latency) / slowdown) (omega (arith, cut, l)) in
@@ -135,20 +140,20 @@ module _ (x : Control) (g : Gates) (row : Row) (ends : Ends) (run : List Clock) 
       ∙ (push ∙ (told ∙ ap (λ v. not (nat_lt t latency) && v)
       (and_true (is_beat outputs ((t - latency) % slowdown)) (is_real x start slowdown run ((t - latency) / slowdown)) yes))))))
 
-  pub sink_in_step : bit ends.sink.valid (get_or (drop start run) upto no_clock) ≡ (nat_lt (q * slowdown + r) upto && is_beat outputs
+  pub sink_in_step : bit ends.sink.valid (unwrap_or (slice_get (drop start run) upto) no_clock) ≡ (nat_lt (q * slowdown + r) upto && is_beat outputs
       ((upto - (q * slowdown + r + 1)) % slowdown))
   sink_in_step = elim (cases_lt 0 upto) [
     | inl more ↦
         let latency : ℕ = q * slowdown + r in
         let e : upto - 1 + 1 ≡ upto = omega (arith, more) in
         let f : upto - 1 - latency ≡ upto - (latency + 1) = omega arith in
-        ap (λ k. bit ends.sink.valid (get_or (drop start run) k no_clock)) (sym e)
+        ap (λ k. bit ends.sink.valid (unwrap_or (slice_get (drop start run) k) no_clock)) (sym e)
         ∙ (next_in_step (upto - 1) (omega (arith, more)) ∙ (λ i. before_is latency upto more i && is_beat outputs (f i % slowdown)))
     | inr none ↦
         let z : upto ≡ 0 = omega (arith, none) in
         let low : nat_lt (q * slowdown + r) upto ≡ false = at_none (q * slowdown + r) upto z in
-        ap (λ k. bit k (get_or (drop start run) upto no_clock)) shown
-        ∙ (ap (λ k. bit x.one (get_or (drop start run) k no_clock)) z ∙
+        ap (λ k. bit k (unwrap_or (slice_get (drop start run) upto) no_clock)) shown
+        ∙ (ap (λ k. bit x.one (unwrap_or (slice_get (drop start run) k) no_clock)) z ∙
         (h.empty (omega (arith, within)) ∙ sym (ap (λ v. v && is_beat outputs ((upto - (q * slowdown + r + 1)) % slowdown)) low)))
   ]
     where

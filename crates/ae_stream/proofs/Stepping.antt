@@ -1,6 +1,6 @@
 -- Which clocks behind the reset are steps of the circuit, and how many steps are before them.
-use Rattle.std.proofs.Common.{ℕ, zero, suc, ◌≡◌, ◌+◌, ◌-◌, ◌*◌, ◌/◌, ◌%◌, ◌<◌, ◌≤◌, ◌⊎◌, inl, inr, List, length, drop, get_or, Bool, true, false, arith, refl, ap, sym, ◌∙◌}
-use Rattle.std.specs.Prelude.{◌&&◌, ◌||◌, not}
+use Rattle.std.proofs.Common.{ℕ, zero, suc, ◌≡◌, ◌+◌, ◌-◌, ◌*◌, ◌/◌, ◌%◌, ◌<◌, ◌≤◌, ◌⊎◌, inl, inr, List, length, drop, Bool, true, false, arith, refl, ap, sym, ◌∙◌}
+use Rattle.std.specs.Prelude.{slice_get, unwrap_or, ◌&&◌, ◌||◌, not}
 use Rattle.std.proofs.lemmas.Bool.{cases_lt, eq-eqb}
 use Rattle.std.proofs.lemmas.Nat.{div-add-mod', mod-mul-add, mod_below}
 use Rattle.ae_sttype.specs.StTree.{StTree}
@@ -72,7 +72,7 @@ module _ (x : Control) (g : Gates) (row : Row) (ends : Ends) (run : List Clock) 
   rest = drop start run
 
   abbrev pub at : ℕ → Clock
-  at t = get_or rest t no_clock
+  at t = unwrap_or (slice_get rest t) no_clock
 
   abbrev pub goes : ℕ → Bool
   goes t = bit x.enable (at t)
@@ -82,13 +82,15 @@ module _ (x : Control) (g : Gates) (row : Row) (ends : Ends) (run : List Clock) 
   stepped t = steps_before x start run t
 
   -- a step stands among the steps behind those before it
-  pub step_at : (t : ℕ) → t < length rest → goes t ≡ true → (stepped t < length (steps x start run)) × (get_or (steps x start run) (stepped t) no_clock ≡ at t)
+  pub step_at : (t : ℕ) → t < length rest → goes t ≡ true → (stepped t < length (steps x start run))
+      × (unwrap_or (slice_get (steps x start run) (stepped t)) no_clock ≡ at t)
   unfolding steps
   step_at t l y = passed_at (bit x.enable) goes rest no_clock (λ k b. refl) t l y
 
   -- what the steps have by their number, each has
   pub by_step : (pass : Clock → Bool) (number : ℕ → Bool)
-      → ((t : ℕ) → t < length (steps x start run) → pass (get_or (steps x start run) t no_clock) ≡ number t) → (t : ℕ) → t < length rest → goes t ≡ true
+      → ((t : ℕ) → t < length (steps x start run) → pass (unwrap_or (slice_get (steps x start run) t) no_clock) ≡ number t) → (t : ℕ) → t < length rest
+      → goes t ≡ true
       → pass (at t) ≡ number (stepped t)
   by_step pass number each t l y = (let s = step_at t l y in ap pass (sym s.1) ∙ each (stepped t) s.0)
 

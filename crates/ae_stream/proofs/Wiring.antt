@@ -1,8 +1,8 @@
 -- A control that is wired and marked is driven.
-use Rattle.std.proofs.Common.{ℕ, zero, suc, ◌≡◌, ◌+◌, ◌-◌, ◌*◌, ◌%◌, ◌<◌, ◌≤◌, inl, inr, List, length, length-drop, drop, get_or, Bool, true, false, arith, refl, ap, sym, ◌∙◌, subst}
-use Rattle.std.specs.Prelude.{◌&&◌, ◌||◌, ◌==◌, not, if◌then◌else◌}
-use Rattle.std.proofs.lemmas.List.{get_or-drop}
+use Rattle.std.proofs.Common.{ℕ, zero, suc, ◌≡◌, ◌+◌, ◌-◌, ◌*◌, ◌%◌, ◌<◌, ◌≤◌, inl, inr, List, length, length-drop, drop, Bool, true, false, arith, refl, ap, sym, ◌∙◌, subst}
+use Rattle.std.specs.Prelude.{slice_get, unwrap_or, ◌&&◌, ◌||◌, ◌==◌, not, if◌then◌else◌}
 use Rattle.std.proofs.lemmas.Bool.{cases_lt, eqb-true}
+use Rattle.ae_netlist.proofs.OrElse.{or_drop}
 use Rattle.ae_sttype.specs.StTree.{StTree}
 use Rattle.ae_netlist.specs.Runs.{Clock, no_clock, word_at, IsReset}
 use Rattle.ae_stream.specs.Queue.{IsFair, IsQueue, next_a, next_b, next_one, next_two}
@@ -39,42 +39,44 @@ module _ (x : Control) (g : Gates) (row : Row) (ends : Ends) (wanted wait : ℕ)
   long : length rest ≡ length run - start
   long = length-drop start run
 
-  at : (t : ℕ) → get_or rest t no_clock ≡ get_or run (start + t) no_clock
-  at t = get_or-drop start run t no_clock
+  at : (t : ℕ) → unwrap_or (slice_get rest t) no_clock ≡ unwrap_or (slice_get run (start + t)) no_clock
+  at t = or_drop start run t no_clock
 
   -- what is so in each clock, and from each to the next, is so behind the reset
-  each : (P : Clock → Type 0) → InEach P run → (t : ℕ) → t < length rest → P (get_or rest t no_clock)
+  each : (P : Clock → Type 0) → InEach P run → (t : ℕ) → t < length rest → P (unwrap_or (slice_get rest t) no_clock)
   each P f t l = subst P (sym (at t)) (f (start + t) (omega (arith, long)))
 
-  from : (P : Clock → Clock → Type 0) → FromEach P run → (t : ℕ) → t + 1 < length rest → P (get_or rest t no_clock) (get_or rest (t + 1) no_clock)
+  from : (P : Clock → Clock → Type 0) → FromEach P run → (t : ℕ) → t + 1 < length rest
+      → P (unwrap_or (slice_get rest t) no_clock) (unwrap_or (slice_get rest (t + 1)) no_clock)
   from P f t l =
       let e : start + (t + 1) ≡ start + t + 1 = omega arith in
-      let next : get_or run (start + t + 1) no_clock ≡ get_or rest (t + 1) no_clock = ap (λ k. get_or run k no_clock) (sym e) ∙ sym (at (t + 1)) in
-      subst (λ c. P c (get_or rest (t + 1) no_clock)) (sym (at t))
-      (subst (λ c. P (get_or run (start + t) no_clock) c) next (f (start + t) (omega (arith, long))))
+      let next : unwrap_or (slice_get run (start + t + 1)) no_clock ≡ unwrap_or (slice_get rest (t + 1)) no_clock = ap
+      (λ k. unwrap_or (slice_get run k) no_clock) (sym e) ∙ sym (at (t + 1)) in
+      subst (λ c. P c (unwrap_or (slice_get rest (t + 1)) no_clock)) (sym (at t))
+      (subst (λ c. P (unwrap_or (slice_get run (start + t)) no_clock) c) next (f (start + t) (omega (arith, long))))
 
-  low : (t : ℕ) → t < length rest → bit g.reset (get_or rest t no_clock) ≡ false
+  low : (t : ℕ) → t < length rest → bit g.reset (unwrap_or (slice_get rest t) no_clock) ≡ false
   unfolding word_at
   low t l = ap (bit g.reset) (at t) ∙ ap (λ k. k == 1) (reset.low (start + t) (omega arith) (omega (arith, long)))
 
-  high : (t : ℕ) → t < start → t < length run → bit g.reset (get_or run t no_clock) ≡ true
+  high : (t : ℕ) → t < start → t < length run → bit g.reset (unwrap_or (slice_get run t) no_clock) ≡ true
   unfolding word_at
   high t b l = ap (λ k. k == 1) (reset.high t b l)
 
   goes : (part makes : Clock → Bool) → IsCleared (bit g.reset) part makes run → (t : ℕ) → t + 1 < length rest
-      → part (get_or rest (t + 1) no_clock) ≡ makes (get_or rest t no_clock)
+      → part (unwrap_or (slice_get rest (t + 1)) no_clock) ≡ makes (unwrap_or (slice_get rest t) no_clock)
   goes part makes f t l =
       from (λ c next. part next ≡ (if bit g.reset c then false else makes c)) f t l
-      ∙ ap (λ v. if v then false else makes (get_or rest t no_clock)) (low t (omega arith))
+      ∙ ap (λ v. if v then false else makes (unwrap_or (slice_get rest t) no_clock)) (low t (omega arith))
 
   -- the clock before the first one behind the reset is one of reset
-  clear : (part makes : Clock → Bool) → IsCleared (bit g.reset) part makes run → 0 < length rest → part (get_or rest 0 no_clock) ≡ false
+  clear : (part makes : Clock → Bool) → IsCleared (bit g.reset) part makes run → 0 < length rest → part (unwrap_or (slice_get rest 0) no_clock) ≡ false
   clear part makes f l =
       let some : 1 ≤ start = reset.some in
       let e : start + 0 ≡ start - 1 + 1 = omega arith in
-      ap part (at 0 ∙ ap (λ k. get_or run k no_clock) e)
+      ap part (at 0 ∙ ap (λ k. unwrap_or (slice_get run k) no_clock) e)
       ∙ (f (start - 1) (omega (arith, long))
-      ∙ ap (λ v. if v then false else makes (get_or run (start - 1) no_clock)) (high (start - 1) (omega arith) (omega (arith, long))))
+      ∙ ap (λ v. if v then false else makes (unwrap_or (slice_get run (start - 1)) no_clock)) (high (start - 1) (omega arith) (omega (arith, long))))
 
   abbrev turned : ℕ → Clock → Bool
   turned j c = if bit x.enable c then next_flag row j c else bit (row.flag (suc j)) c
@@ -85,10 +87,11 @@ module _ (x : Control) (g : Gates) (row : Row) (ends : Ends) (wanted wait : ℕ)
   abbrev twos : Clock → Bool
   twos c = next_two (bit x.one c) (bit x.two c) (is_put x c) (is_transfer ends.sink c)
 
-  fair : (t : ℕ) → t < length rest → IsFair (bit x.one (get_or rest t no_clock)) (bit x.two (get_or rest t no_clock)) (is_put x (get_or rest t no_clock))
-      (is_transfer ends.sink (get_or rest t no_clock))
+  fair : (t : ℕ) → t < length rest → IsFair (bit x.one (unwrap_or (slice_get rest t) no_clock)) (bit x.two (unwrap_or (slice_get rest t) no_clock))
+      (is_put x (unwrap_or (slice_get rest t) no_clock))
+      (is_transfer ends.sink (unwrap_or (slice_get rest t) no_clock))
   fair t l =
-      let c : Clock = get_or rest t no_clock in
+      let c : Clock = unwrap_or (slice_get rest t) no_clock in
       let gates : HasGates x g ends c = each (HasGates x g ends) w.gates t l in
       record {
         second = stands t l;
@@ -98,16 +101,19 @@ module _ (x : Control) (g : Gates) (row : Row) (ends : Ends) (wanted wait : ℕ)
         some = λ h. ap (λ n. bit n c) (sym w.valid) ∙ both_left (bit ends.sink.valid c) (bit ends.sink.ready c) h;
       }
     where
-      stands : (t : ℕ) → t < length rest → bit x.two (get_or rest t no_clock) ≡ true → bit x.one (get_or rest t no_clock) ≡ true
+      stands : (t : ℕ) → t < length rest → bit x.two (unwrap_or (slice_get rest t) no_clock) ≡ true → bit x.one (unwrap_or (slice_get rest t) no_clock) ≡ true
       stands zero l h = (let e : false ≡ true = sym (clear (bit x.two) twos w.two l) ∙ h in absurd (grind (arith, e)))
       stands (suc t) l h =
           let e : suc t ≡ t + 1 = omega arith in
-          let two : bit x.two (get_or rest (t + 1) no_clock) ≡ twos (get_or rest t no_clock) = goes (bit x.two) twos w.two t (omega arith) in
-          let one : bit x.one (get_or rest (t + 1) no_clock) ≡ ones (get_or rest t no_clock) = goes (bit x.one) ones w.one t (omega arith) in
-          let k : bit x.two (get_or rest (t + 1) no_clock) ≡ true = ap (λ k. bit x.two (get_or rest k no_clock)) (sym e) ∙ h in
-          ap (λ k. bit x.one (get_or rest k no_clock)) e ∙ (one ∙
-          second_has_first (bit x.one (get_or rest t no_clock)) (bit x.two (get_or rest t no_clock)) (is_put x (get_or rest t no_clock))
-          (is_transfer ends.sink (get_or rest t no_clock)) (sym two ∙ k))
+          let two : bit x.two (unwrap_or (slice_get rest (t + 1)) no_clock) ≡ twos (unwrap_or (slice_get rest t) no_clock) = goes (bit x.two) twos w.two t
+          (omega arith) in
+          let one : bit x.one (unwrap_or (slice_get rest (t + 1)) no_clock) ≡ ones (unwrap_or (slice_get rest t) no_clock) = goes (bit x.one) ones w.one t
+          (omega arith) in
+          let k : bit x.two (unwrap_or (slice_get rest (t + 1)) no_clock) ≡ true = ap (λ k. bit x.two (unwrap_or (slice_get rest k) no_clock)) (sym e) ∙ h in
+          ap (λ k. bit x.one (unwrap_or (slice_get rest k) no_clock)) e ∙ (one ∙
+          second_has_first (bit x.one (unwrap_or (slice_get rest t) no_clock)) (bit x.two (unwrap_or (slice_get rest t) no_clock))
+          (is_put x (unwrap_or (slice_get rest t) no_clock))
+          (is_transfer ends.sink (unwrap_or (slice_get rest t) no_clock)) (sym two ∙ k))
 
   queue : (k : ℕ) → k < ends.columns → IsQueue (queue_of x ends k) rest no_clock
   queue k b = record {
@@ -123,9 +129,11 @@ module _ (x : Control) (g : Gates) (row : Row) (ends : Ends) (wanted wait : ℕ)
 
   pub driven_by : IsDriven x g row ends run start slowdown q r inputs outputs
   driven_by = record {
-    resets = λ t b l. (w.gates t l).enable ∙ ap (λ v. v || (not (bit x.two (get_or run t no_clock)) && may_go (bit g.first (get_or run t no_clock))
-        (bit ends.source.valid (get_or run t no_clock))
-        (bit g.busy (get_or run t no_clock)) (bit x.takes (get_or run t no_clock)) (bit g.current (get_or run t no_clock)))) (high t b l);
+    resets = λ t b l. (w.gates t l).enable ∙ ap (λ v. v || (not (bit x.two (unwrap_or (slice_get run t) no_clock)) && may_go
+        (bit g.first (unwrap_or (slice_get run t) no_clock))
+        (bit ends.source.valid (unwrap_or (slice_get run t) no_clock))
+        (bit g.busy (unwrap_or (slice_get run t) no_clock)) (bit x.takes (unwrap_or (slice_get run t) no_clock))
+        (bit g.current (unwrap_or (slice_get run t) no_clock)))) (high t b l);
     low = low;
     gates = each (HasGates x g ends) w.gates;
     current = record { each = from (λ c next. bit g.current next ≡ (if bit x.enable c then bit x.here c else bit g.current c)) w.current };
@@ -137,7 +145,8 @@ module _ (x : Control) (g : Gates) (row : Row) (ends : Ends) (wanted wait : ℕ)
     busy = λ t j c l y from. each (λ k. bit (row.flag (suc j)) k ≡ true → bit g.busy k ≡ true) (w.busy j (soon j c y from)) t l;
     takes = λ t l.
         each (λ c. bit x.takes c ≡ (bit g.first c || bit wanted c)) w.takes t l
-        ∙ taken_or (bit g.first (get_or rest t no_clock)) (bit wanted (get_or rest t no_clock)) (is_beat inputs (steps_before x start run t % slowdown))
+        ∙ taken_or (bit g.first (unwrap_or (slice_get rest t) no_clock)) (bit wanted (unwrap_or (slice_get rest t) no_clock))
+        (is_beat inputs (steps_before x start run t % slowdown))
         (m.wants t l) (λ h. (let z : steps_before x start run t % slowdown ≡ 0 = zero_of (steps_before x start run t % slowdown) (sym (m.first t l) ∙ h) in
         ap (is_beat inputs) z ∙ beat));
     late = m.late;

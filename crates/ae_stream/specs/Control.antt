@@ -1,5 +1,5 @@
 -- What the control of a circuit between channels does, in one run.
-use Rattle.std.specs.Prelude.{◌≡◌, ℕ, ◌+◌, ◌-◌, ◌*◌, ◌%◌, ◌<◌, ◌&&◌, nat_lt, not, Bool, true, false, List, length, drop, map, Some, slice_get, get_or}
+use Rattle.std.specs.Prelude.{unwrap_or, ◌≡◌, ℕ, ◌+◌, ◌-◌, ◌*◌, ◌%◌, ◌<◌, ◌&&◌, nat_lt, not, Bool, true, false, List, length, drop, map, Some, slice_get}
 use Rattle.std.specs.List.{filter}
 use Rattle.ae_seq.specs.ProgramTree.{ProgramTree}
 use Rattle.ae_sttype.specs.declared.st_type.Slot.{Slot}
@@ -31,21 +31,21 @@ steps x start run = filter (bit x.enable) (drop start run)
 
 -- how many of these are before a clock behind the reset
 abbrev pub steps_before : Control → (start : ℕ) → List Clock → ℕ → ℕ
-steps_before x start run t = passing (λ k. bit x.enable (get_or (drop start run) k no_clock)) t
+steps_before x start run t = passing (λ k. bit x.enable (unwrap_or (slice_get (drop start run) k) no_clock)) t
 
 -- a test of each clock behind the reset says what a test of the number of steps before it says, whether it is a step or not
 abbrev pub BySteps : Control → (start : ℕ) → List Clock → (Clock → Bool) → (ℕ → Bool) → Type 0
 BySteps x start run pass number =
-    (t : ℕ) → t < length (drop start run) → pass (get_or (drop start run) t no_clock) ≡ number
+    (t : ℕ) → t < length (drop start run) → pass (unwrap_or (slice_get (drop start run) t) no_clock) ≡ number
     (steps_before x start run t)
 
 -- whether a block is real, as its first clock says
 unfoldable pub is_real : Control → (start slowdown : ℕ) → List Clock → ℕ → Bool
-is_real x start slowdown run b = bit x.here (get_or (steps x start run) (b * slowdown) no_clock)
+is_real x start slowdown run b = bit x.here (unwrap_or (slice_get (steps x start run) (b * slowdown)) no_clock)
 
 -- the word of a net in a clock
 abbrev pub word_in : ℕ → Clock → ℕ
-word_in net c = get_or c.words net 0
+word_in net c = unwrap_or (slice_get c.words net) 0
 
 abbrev pub queue_of : Control → Ends → (column : ℕ) → Queue Clock ℕ
 queue_of x ends q = record {
@@ -70,22 +70,22 @@ pub record IsControlled (x : Control) (ends : Ends) (run : List Clock) (start sl
     (inputs outputs : List StTree)
     : Type 0 where
   -- in reset it steps
-  pub resets : (t : ℕ) → t < start → t < length run → bit x.enable (get_or run t no_clock) ≡ true
+  pub resets : (t : ℕ) → t < start → t < length run → bit x.enable (unwrap_or (slice_get run t) no_clock) ≡ true
   -- words pass at the source where the circuit steps and a real block wants them
-  pub asks : ByNumber (is_transfer ends.source) (λ t. wants x (get_or (drop start run) t no_clock))
+  pub asks : ByNumber (is_transfer ends.source) (λ t. wants x (unwrap_or (slice_get (drop start run) t) no_clock))
       (drop start run) no_clock
   pub takes : ByNumber (bit x.takes) (λ t. is_beat inputs (t % slowdown)) (steps x start run) no_clock
   -- a block stays real or not
   pub stays : (b c : ℕ) → c + 1 < slowdown → b * slowdown + (c + 1) < length (steps x start run)
-      → bit x.here (get_or (steps x start run) (b * slowdown + (c + 1)) no_clock)
-      ≡ bit x.here (get_or (steps x start run) (b * slowdown + c) no_clock)
+      → bit x.here (unwrap_or (slice_get (steps x start run) (b * slowdown + (c + 1))) no_clock)
+      ≡ bit x.here (unwrap_or (slice_get (steps x start run) (b * slowdown + c)) no_clock)
   -- real results are shown, late by the latency
   pub shows : ByNumber (bit x.shows) (later latency (carries (is_beat outputs) (is_real x start slowdown run) slowdown))
       (steps x start run) no_clock
   -- each column has a queue, which is empty at first
   pub any : 0 < ends.columns
   pub queue : (q : ℕ) → q < ends.columns → IsQueue (queue_of x ends q) (drop start run) no_clock
-  pub empty : 0 < length (drop start run) → bit x.one (get_or (drop start run) 0 no_clock) ≡ false
+  pub empty : 0 < length (drop start run) → bit x.one (unwrap_or (slice_get (drop start run) 0) no_clock) ≡ false
 
 -- what the circuit inside has in a clock
 pub record IsPart (x : Control) (ends : Ends) (n : Circuit) (inner : Clock → Clock) (c : Clock) : Type 0 where
@@ -96,7 +96,7 @@ pub record IsPart (x : Control) (ends : Ends) (n : Circuit) (inner : Clock → C
 -- the circuit inside: of each clock in which it steps the words of its nets, which are a run of it
 pub record IsInside (x : Control) (ends : Ends) (n : Circuit) (inner : Clock → Clock) (run : List Clock) : Type 0 where
   pub runs : IsRun n.cells (map inner (filter (bit x.enable) run))
-  pub parts : (t : ℕ) → t < length run → IsPart x ends n inner (get_or run t no_clock)
+  pub parts : (t : ℕ) → t < length run → IsPart x ends n inner (unwrap_or (slice_get run t) no_clock)
 
 -- all elements stand in the clocks of a block and on so many columns, and some in the first clock
 pub record AreWithin (layouts : List StTree) (slowdown columns : ℕ) : Type 0 where

@@ -1,5 +1,5 @@
 -- Clocks that show the words of a block.
-use Rattle.std.specs.Prelude.{◌≡◌, ℕ, ◌+◌, ◌*◌, ◌<◌, List, Some, slice_get, get_or}
+use Rattle.std.specs.Prelude.{unwrap_or, ◌≡◌, ℕ, ◌+◌, ◌*◌, ◌<◌, List, Some, slice_get}
 use Rattle.ae_seqtype.specs.ValueTree.{ValueTree, flat}
 use Rattle.ae_seq.specs.ProgramTree.{ProgramTree}
 use Rattle.ae_seq.specs.Meaning.{at}
@@ -17,11 +17,11 @@ use Rattle.ae_rewrite.specs.Interface.{AreValues, parameter_types}
 pub record ShowsClock (cells : List SizedCell) (inputs : List StTree) (block : List ValueTree) (c : ℕ) (clock : Clock)
     : Type 0 where
   pub shaped : IsShaped cells clock
-  pub low : get_or clock.words 0 0 ≡ 0
+  pub low : unwrap_or (slice_get clock.words 0) 0 ≡ 0
   pub words : (q : ℕ) (s : StTree) (e j : ℕ) (w : Slot) → slice_get inputs q ≡ Some s → slice_get (slots s) e ≡ Some w
       → j < element_words s → w.clock ≡ c
-      → get_or clock.words (1 + (first_column inputs q + (w.lane * element_words s + j))) 0
-      ≡ get_or (flat (at block q)) (e * element_words s + j) 0
+      → unwrap_or (slice_get clock.words (1 + (first_column inputs q + (w.lane * element_words s + j)))) 0
+      ≡ unwrap_or (slice_get (flat (at block q)) (e * element_words s + j)) 0
 
 -- net n is an input
 pub record IsInput (cells : List SizedCell) (n : ℕ) : Type 0 where

@@ -1,6 +1,6 @@
 -- Where a clock stands among the transfers, what passes through a circuit between channels, what stays there, and
 -- that it goes on and follows nothing within a clock.
-use Rattle.std.specs.Prelude.{◌≡◌, ℕ, suc, ◌+◌, ◌*◌, ◌<◌, ◌≤◌, Bool, true, List, length, drop, filter, get_or}
+use Rattle.std.specs.Prelude.{slice_get, unwrap_or, ◌≡◌, ℕ, suc, ◌+◌, ◌*◌, ◌<◌, ◌≤◌, Bool, true, List, length, drop, filter}
 use Rattle.ae_seq.specs.ProgramTree.{ProgramTree}
 use Rattle.ae_sttype.specs.StTree.{StTree}
 use Rattle.ae_netlist.specs.Circuit.{Circuit, IsFormed}
@@ -25,8 +25,8 @@ BlocksAreTaken =
     → ByNumber pass (carries live real slowdown) xs no_clock
     → c < slowdown → b * slowdown + c < length xs → real b ≡ true → live c ≡ true
     → (passing real b * passing live slowdown + passing live c < length (filter pass xs))
-    × (get_or (filter pass xs) (passing real b * passing live slowdown + passing live c) no_clock
-    ≡ get_or xs (b * slowdown + c) no_clock)
+    × (unwrap_or (slice_get (filter pass xs) (passing real b * passing live slowdown + passing live c)) no_clock
+    ≡ unwrap_or (slice_get xs (b * slowdown + c)) no_clock)
 
 abbrev pub ControlledCircuitsStream : Type 0
 ControlledCircuitsStream =
@@ -87,8 +87,8 @@ HeldMarksAreSeen =
     (x : Control) (marked copied new : Circuit) → IsFormed marked.cells → 0 < length marked.cells
     → IsHeld 2 x.enable marked copied new → length marked.cells + 2 ≤ length copied.cells
     → (run : List Clock) (start : ℕ) → IsRun new.cells run → IsReset run 0 start
-    → ((t : ℕ) → t < start → t < length run → bit x.enable (get_or run t no_clock) ≡ true)
+    → ((t : ℕ) → t < start → t < length run → bit x.enable (unwrap_or (slice_get run t) no_clock) ≡ true)
     → (y : ℕ) (f : ℕ → ℕ) → y < length marked.cells
     → InEveryResetRun marked.cells 0 (λ run start. HasWords run start y f)
     → (t : ℕ) → t < length (drop start run)
-    → word_in (placed 2 y) (get_or (drop start run) t no_clock) ≡ f (steps_before x start run t)
+    → word_in (placed 2 y) (unwrap_or (slice_get (drop start run) t) no_clock) ≡ f (steps_before x start run t)

@@ -1,5 +1,5 @@
 -- That a circuit between two channels goes on, as its ports tell.
-use Rattle.std.specs.Prelude.{◌≡◌, ◌≢◌, ℕ, ◌+◌, ◌-◌, ◌*◌, ◌%◌, ◌<◌, ◌≤◌, ◌&&◌, nat_lt, List, length, take, get_or}
+use Rattle.std.specs.Prelude.{slice_get, unwrap_or, ◌≡◌, ◌≢◌, ℕ, ◌+◌, ◌-◌, ◌*◌, ◌%◌, ◌<◌, ◌≤◌, ◌&&◌, nat_lt, List, length, take}
 use Rattle.ae_sttype.specs.StTree.{StTree}
 use Rattle.ae_netlist.specs.Runs.{Clock, no_clock, word_at}
 use Rattle.ae_stream.specs.Streams.{Channel, Ends, beats, bit, is_beat, transfers}
@@ -25,9 +25,9 @@ BothGo ends run start count =
 pub record IsInStep (ends : Ends) (run : List Clock) (start slowdown latency : ℕ) (inputs outputs : List StTree)
     : Type 0 where
   pub source : (c : ℕ) → start + c < length run → BothGo ends run start c
-      → bit ends.source.ready (get_or run (start + c) no_clock) ≡ is_beat inputs (c % slowdown)
+      → bit ends.source.ready (unwrap_or (slice_get run (start + c)) no_clock) ≡ is_beat inputs (c % slowdown)
   pub sink : (c : ℕ) → start + c < length run → BothGo ends run start c
-      → bit ends.sink.valid (get_or run (start + c) no_clock)
+      → bit ends.sink.valid (unwrap_or (slice_get run (start + c)) no_clock)
       ≡ (nat_lt latency c && is_beat outputs ((c - (latency + 1)) % slowdown))
 
 -- the source does not stop inside a block: asked for words that are not the first of a block, it has them

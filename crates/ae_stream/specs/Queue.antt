@@ -1,5 +1,5 @@
 -- A queue of two words, in each element of a list.
-use Rattle.std.specs.Prelude.{◌≡◌, ℕ, ◌+◌, ◌<◌, ◌&&◌, ◌||◌, not, if◌then◌else◌, Bool, true, false, List, [], ◌∷◌, ◌++◌, length, map, get_or}
+use Rattle.std.specs.Prelude.{slice_get, unwrap_or, ◌≡◌, ℕ, ◌+◌, ◌<◌, ◌&&◌, ◌||◌, not, if◌then◌else◌, Bool, true, false, List, [], ◌∷◌, ◌++◌, length, map}
 use Rattle.std.specs.List.{filter}
 
 abbrev pub content : {W : Type 0} → (one two : Bool) → (a b : W) → List W
@@ -43,8 +43,10 @@ pub record IsAfter {X W : Type 0} (q : Queue X W) (x y : X) : Type 0 where
 
 pub record IsQueue {X W : Type 0} (q : Queue X W) (xs : List X) (d : X) : Type 0 where
   pub fair : (t : ℕ) → t < length xs
-      → IsFair (q.one (get_or xs t d)) (q.two (get_or xs t d)) (q.push (get_or xs t d)) (q.pop (get_or xs t d))
-  pub after : (t : ℕ) → t + 1 < length xs → IsAfter q (get_or xs t d) (get_or xs (t + 1) d)
+      → IsFair (q.one (unwrap_or (slice_get xs t) d)) (q.two (unwrap_or (slice_get xs t) d))
+      (q.push (unwrap_or (slice_get xs t) d)) (q.pop (unwrap_or (slice_get xs t) d))
+  pub after : (t : ℕ) → t + 1 < length xs → IsAfter q (unwrap_or (slice_get xs t) d)
+      (unwrap_or (slice_get xs (t + 1)) d)
 
 abbrev pub stands : {X W : Type 0} → Queue X W → X → List W
 stands q x = content (q.one x) (q.two x) (q.a x) (q.b x)

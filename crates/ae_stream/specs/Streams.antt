@@ -1,6 +1,6 @@
 -- What passes through a circuit between two channels. Each has a bit that says that words stand there, and one that says
 -- that they are taken; in a clock in which both are 1 they pass.
-use Rattle.std.specs.Prelude.{◌≡◌, ◌≢◌, ℕ, ◌+◌, ◌*◌, ◌<◌, ◌≤◌, ◌==◌, ◌&&◌, ◌||◌, Bool, false, List, [], ◌∷◌, length, drop, Some, slice_get, get_or}
+use Rattle.std.specs.Prelude.{unwrap_or, ◌≡◌, ◌≢◌, ℕ, ◌+◌, ◌*◌, ◌<◌, ◌≤◌, ◌==◌, ◌&&◌, ◌||◌, Bool, false, List, [], ◌∷◌, length, drop, Some, slice_get}
 use Rattle.std.specs.List.{filter}
 use Rattle.ae_seqtype.specs.ValueTree.{ValueTree, flat}
 use Rattle.ae_seq.specs.ProgramTree.{ProgramTree}
@@ -19,7 +19,7 @@ use Rattle.ae_stream.specs.Passing.{passing}
 
 -- the bit of a net in a clock
 abbrev pub bit : ℕ → Clock → Bool
-bit net c = get_or c.words net 0 == 1
+bit net c = unwrap_or (slice_get c.words net) 0 == 1
 
 -- the nets of a channel: that words stand there, and that they are taken
 pub record Channel : Type 0 where
@@ -56,7 +56,7 @@ pub record AreShown (clocks : List Clock) (place net : ℕ → ℕ) (layouts : L
   pub each : (q : ℕ) (s : StTree) → slice_get layouts q ≡ Some s
       → (e j : ℕ) (w : Slot) → slice_get (slots s) e ≡ Some w → j < element_words s → place w.clock < length clocks
       → word_at clocks (place w.clock) (net (first_column layouts q + (w.lane * element_words s + j)))
-      ≡ get_or (flat (at values q)) (e * element_words s + j) 0
+      ≡ unwrap_or (slice_get (flat (at values q)) (e * element_words s + j)) 0
 
 -- these transfers are, as far as they go, those of the values, block for block
 abbrev pub AreBlocks : List Clock → (slowdown : ℕ) → (net : ℕ → ℕ) → List StTree → (b : ℕ) → List ValueTree → Type 0

@@ -1,5 +1,5 @@
 -- What the cells of the control make so in every run, the clocks of reset included.
-use Rattle.std.specs.Prelude.{◌≡◌, ℕ, suc, ◌+◌, ◌%◌, ◌<◌, ◌≤◌, ◌-◌, ◌==◌, ◌&&◌, ◌||◌, nat_lt, if◌then◌else◌, Bool, true, false, List, length, get_or}
+use Rattle.std.specs.Prelude.{slice_get, unwrap_or, ◌≡◌, ℕ, suc, ◌+◌, ◌%◌, ◌<◌, ◌≤◌, ◌-◌, ◌==◌, ◌&&◌, ◌||◌, nat_lt, if◌then◌else◌, Bool, true, false, List, length}
 use Rattle.ae_sttype.specs.StTree.{StTree}
 use Rattle.ae_netlist.specs.Runs.{Clock, no_clock}
 use Rattle.ae_stream.specs.Queue.{next_a, next_b, next_one, next_two}
@@ -10,11 +10,12 @@ use Rattle.ae_stream.specs.Driven.{IsRead, Row, late_clock, next_flag}
 
 -- in each clock of a run
 abbrev pub InEach : (Clock → Type 0) → List Clock → Type 0
-InEach P run = (t : ℕ) → t < length run → P (get_or run t no_clock)
+InEach P run = (t : ℕ) → t < length run → P (unwrap_or (slice_get run t) no_clock)
 
 -- from each clock to the next
 abbrev pub FromEach : (Clock → Clock → Type 0) → List Clock → Type 0
-FromEach P run = (t : ℕ) → t + 1 < length run → P (get_or run t no_clock) (get_or run (t + 1) no_clock)
+FromEach P run =
+    (t : ℕ) → t + 1 < length run → P (unwrap_or (slice_get run t) no_clock) (unwrap_or (slice_get run (t + 1)) no_clock)
 
 -- a bit is 0 behind a clock of reset, and else what is made of the clock before
 abbrev pub IsCleared : (reset part makes : Clock → Bool) → List Clock → Type 0

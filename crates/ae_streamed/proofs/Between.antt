@@ -1,5 +1,5 @@
 -- A marked circuit with a control around it stands between two channels.
-use Rattle.std.proofs.Common.{ℕ, zero, suc, ◌≡◌, ◌+◌, ◌*◌, ◌/◌, ◌%◌, ◌-◌, ◌<◌, ◌≤◌, Bool, true, false, List, [], ◌∷◌, length, map, sum_by, Some, slice_get, drop, get_or, arith, refl, sym, ap, ◌∙◌, subst}
+use Rattle.std.proofs.Common.{ℕ, zero, suc, ◌≡◌, ◌+◌, ◌*◌, ◌/◌, ◌%◌, ◌-◌, ◌<◌, ◌≤◌, Bool, true, false, List, [], ◌∷◌, length, map, sum_by, Some, slice_get, drop, unwrap_or, arith, refl, sym, ap, ◌∙◌, subst}
 use Rattle.std.specs.Prelude.{◌||◌, ◌==◌, nat_lt, if◌then◌else◌}
 use Rattle.std.proofs.lemmas.List.{length-map}
 use Rattle.std.proofs.Math.Nat.{div-le_self}
@@ -137,18 +137,18 @@ module _ (n marked new : Circuit) (m : Marks) (slowdown latency wait : ℕ) (inp
     reset_there : IsReset run wrapped.control.gates.reset start
     reset_there = subst (λ y. IsReset run y start) (sym wrapped.control.reset) reset
 
-    on : (t : ℕ) → t < start → t < length run → bit x.enable (get_or run t no_clock) ≡ true
+    on : (t : ℕ) → t < start → t < length run → bit x.enable (unwrap_or (slice_get run t) no_clock) ≡ true
     unfolding word_at
     on t b l =
         (wired.gates t l).enable
-        ∙ or_left (bit wrapped.control.gates.reset (get_or run t no_clock)) _ (high t b l)
+        ∙ or_left (bit wrapped.control.gates.reset (unwrap_or (slice_get run t) no_clock)) _ (high t b l)
       where
-        high : (t : ℕ) → t < start → t < length run → bit wrapped.control.gates.reset (get_or run t no_clock) ≡ true
+        high : (t : ℕ) → t < start → t < length run → bit wrapped.control.gates.reset (unwrap_or (slice_get run t) no_clock) ≡ true
         high t b l = ap (λ k. k == 1) (reset_there.high t b l)
 
     seen : (y : ℕ) (passes : ℕ → Bool) → IsBitOf marked.cells 0 y passes → BySteps x start run (bit (placed 2 y)) passes
     seen y passes h t l =
-        bit_of (passes (steps_before x start run t)) (word_in (placed 2 y) (get_or (drop start run) t no_clock))
+        bit_of (passes (steps_before x start run t)) (word_in (placed 2 y) (unwrap_or (slice_get (drop start run) t) no_clock))
         (are_seen x marked wrapped.copied new formed_marked (omega (arith, fits, long)) wrapped.held wrapped.longer run start r reset on y
         (λ c. if passes c then 1 else 0) (net_within h.net) h.words t l)
 

@@ -2,6 +2,7 @@
 use Rattle.std.proofs.Common.{◌≡◌, ℕ, ◌+◌, ◌*◌, ◌/◌, ◌%◌, ◌<◌, ◌≤◌, ◌↔◌, length, refl, ap, sym, ◌∙◌, arith, inl, inr, IsTrue, Bool, nat_eq, nat_lt}
 use Rattle.std.proofs.lemmas.Nat.{div-add-mod', mod_below, div-mul-add, mod-mul-add, mul-add-lt, div_below, mul-le}
 use Rattle.std.proofs.lemmas.List.{get_or_default}
+use Rattle.std.proofs.lemmas.Option.{unwrap_or-slice_get}
 use Rattle.std.proofs.lemmas.Bool.{cases_order, eqb-true, eq-eqb, ltb-true}
 use Rattle.ae_sttype.specs.declared.st_type.Slot.{Slot}
 use Rattle.ae_word.specs.AtomTree.{AtomTree}
@@ -19,8 +20,14 @@ pub record Lives (s : StTree) (c : ℕ) : Type 0 where
 pub live_from : (s : StTree) (c : ℕ) → Lives s c → IsLive s c
 live_from s c h =
     let w = h.stands in
-    let p : h.element < length (slots s) = omega (arith, w.below, length-slots s) in
-    (h.element, slot_at c h.lane, p, get_or_default (slots s) h.element (slot_at c h.lane) (slot_at 0 0) p ∙ w.is, refl)
+    let p : h.element < length (slots s) = omega (arith, w.below, length-slots s) in (
+      h.element,
+      slot_at c h.lane,
+      p,
+      get_or_default (slots s) h.element (slot_at c h.lane) (slot_at 0 0) p
+          ∙ (sym (unwrap_or-slice_get (slots s) h.element (slot_at 0 0)) ∙ w.is),
+      refl,
+    )
 
 pub live_to : (s : StTree) (c : ℕ) → IsLive s c → Lives s c
 live_to s c h = record {
@@ -28,7 +35,7 @@ live_to s c h = record {
   lane = h.1.lane;
   stands = record {
     below = omega (arith, h.2, length-slots s);
-    is = get_or_default (slots s) h.0 (slot_at 0 0) h.1 h.2 ∙ h.3 ∙ ap (λ x. slot_at x h.1.lane) h.4;
+    is = unwrap_or-slice_get (slots s) h.0 (slot_at 0 0) ∙ get_or_default (slots s) h.0 (slot_at 0 0) h.1 h.2 ∙ h.3 ∙ ap (λ x. slot_at x h.1.lane) h.4;
   };
 }
 

@@ -1,9 +1,10 @@
 -- The element that stands at a place of the list of slots.
 use Rattle.std.proofs.Common.{◌≡◌, ℕ, zero, suc, ◌+◌, ◌*◌, ◌/◌, ◌%◌, ◌<◌, inl, inr, List, ◌++◌, length, map, get_or, refl, ap, sym, slice_get, Some, ◌∙◌, arith, length-append}
+use Rattle.std.specs.Prelude.{unwrap_or}
 use Rattle.std.proofs.lemmas.List.{length-map, get_or-append-add, get_or_append_left, get_or-map}
 use Rattle.std.proofs.lemmas.Nat.{mul-add-lt, div-mul-add, mod-mul-add, div_below, mod_below, div-add-mod'}
 use Rattle.std.proofs.lemmas.Bool.{cases_lt}
-use Rattle.std.proofs.lemmas.Option.{slice_get-get_or, get_or_from_slice_get, slice_get_within}
+use Rattle.std.proofs.lemmas.Option.{slice_get-get_or, slice_get_within, unwrap_or-slice_get}
 use Rattle.ae_sttype.specs.declared.st_type.Slot.{Slot}
 use Rattle.ae_sttype.specs.StTree.{StTree, atom, tseq, sseq, time, lanes, st_atoms}
 use Rattle.ae_sttype.specs.Slots.{moved, copies, slots}
@@ -43,14 +44,14 @@ get_or-copies (suc m) c l ws q r d p h = elim (cases_lt q m) [
 
 -- element e of n copies is element e mod m of copy e / m, where one copy has m elements
 pub copies_place : (n c l m : ℕ) (ws : List Slot) (e : ℕ) (d : Slot) → length ws ≡ m → 0 < m → e < n * m →
-    get_or (copies n c l ws) e d ≡ moved (e / m * c) (e / m * l) (get_or ws (e % m) d)
-copies_place n c l m ws e d s p h =
-    ap (λ i. get_or (copies n c l ws) i d) (let f : e ≡ e / m * length ws + e % m = omega (arith, div-add-mod' e m, ap (λ x. e / m * x) s) in f)
-    ∙ get_or-copies n c l ws (e / m) (e % m) d (div_below e m n p h) (omega (arith, mod_below e m p))
+    unwrap_or (slice_get (copies n c l ws) e) d ≡ moved (e / m * c) (e / m * l) (unwrap_or (slice_get ws (e % m)) d)
+copies_place n c l m ws e d s p h = rw (unwrap_or-slice_get (copies n c l ws) e d, unwrap_or-slice_get ws (e % m) d)
+    (ap (λ i. get_or (copies n c l ws) i d) (let f : e ≡ e / m * length ws + e % m = omega (arith, div-add-mod' e m, ap (λ x. e / m * x) s) in f)
+    ∙ get_or-copies n c l ws (e / m) (e % m) d (div_below e m n p h) (omega (arith, mod_below e m p)))
 
 -- the slot of element e
 abbrev pub slot_of : StTree → ℕ → Slot
-slot_of s e = get_or (slots s) e (slot_at 0 0)
+slot_of s e = unwrap_or (slice_get (slots s) e) (slot_at 0 0)
 
 pub tseq_slot : (n i : ℕ) (t : StTree) → 0 < st_atoms t → (e : ℕ) → e < n * st_atoms t →
     slot_of (tseq n i t) e ≡ moved (e / st_atoms t * time t) (e / st_atoms t * 0) (slot_of t (e % st_atoms t))
@@ -133,11 +134,12 @@ sseq_stands n t h e c l s =
 pub stands_from_get : (s : StTree) (e c l : ℕ) → slice_get (slots s) e ≡ Some (slot_at c l) → Stands s e c l
 stands_from_get s e c l h = record {
   below = omega (arith, slice_get_within (slots s) e (slot_at c l) h, length-slots s);
-  is = get_or_from_slice_get (slots s) e (slot_at c l) (slot_at 0 0) h;
+  is = ap (λ o. unwrap_or o (slot_at 0 0)) h;
 }
 
 pub get_from_stands : (s : StTree) (e c l : ℕ) → Stands s e c l → slice_get (slots s) e ≡ Some (slot_at c l)
-get_from_stands s e c l w = slice_get-get_or (slots s) e (slot_at 0 0) (omega (arith, w.below, length-slots s)) ∙ ap Some w.is
+get_from_stands s e c l w = slice_get-get_or (slots s) e (slot_at 0 0) (omega (arith, w.below, length-slots s))
+    ∙ ap Some (sym (unwrap_or-slice_get (slots s) e (slot_at 0 0)) ∙ w.is)
 
 -- ---- what the code returns
 

@@ -1,5 +1,5 @@
 -- When the wires of a run hold a value.
-use Rattle.std.specs.Prelude.{◌≡◌, ℕ, ◌+◌, ◌*◌, ◌<◌, List, Some, slice_get, get_or}
+use Rattle.std.specs.Prelude.{◌≡◌, ℕ, ◌+◌, ◌*◌, ◌<◌, List, Some, slice_get, unwrap_or}
 use Rattle.ae_sttype.specs.declared.st_type.Slot.{Slot}
 use Rattle.ae_sttype.specs.StTree.{StTree}
 use Rattle.ae_sttype.specs.Slots.{slots}
@@ -8,7 +8,7 @@ use Rattle.ae_sttype.specs.Slots.{slots}
 -- a value that fits has them all, so the default is not read
 abbrev pub Holds : (run : ℕ → ℕ → ℕ) (k words : ℕ) → List Slot → (value : List ℕ) → Type 0
 Holds run k words places value =
-    (e j : ℕ) (w : Slot) → slice_get places e ≡ Some w → j < words → run (k + w.clock) (w.lane * words + j) ≡ get_or value (e * words + j) 0
+    (e j : ℕ) (w : Slot) → slice_get places e ≡ Some w → j < words → run (k + w.clock) (w.lane * words + j) ≡ unwrap_or (slice_get value (e * words + j)) 0
 
 -- no element stands in the clock on the lane
 abbrev pub IsFree : StTree → (clock lane : ℕ) → Type 0

@@ -1,5 +1,5 @@
 -- A move takes each word of its output from a word of one of its inputs, or has a fixed word there. What it costs.
-use Rattle.std.specs.Prelude.{ℕ, ◌+◌, ◌-◌, ◌*◌, ◌/◌, ◌%◌, ◌<◌, ◌≤◌, List, [], ◌∷◌, max, Bool, false, not, ◌&&◌, ◌||◌, ◌==◌, nat_le, nat_lt, if◌then◌else◌, map, fold, filter, length, take, sum_by, count_by, get_or}
+use Rattle.std.specs.Prelude.{ℕ, ◌+◌, ◌-◌, ◌*◌, ◌/◌, ◌%◌, ◌<◌, ◌≤◌, List, [], ◌∷◌, max, Bool, false, not, ◌&&◌, ◌||◌, ◌==◌, nat_le, nat_lt, if◌then◌else◌, map, fold, filter, length, take, sum_by, count_by, slice_get, unwrap_or}
 use Rattle.std.specs.List.{range_with_len, list_all}
 use Rattle.ae_sttype.specs.declared.st_type.Slot.{Slot}
 use Rattle.ae_word.specs.AtomTree.{unsigned_word}
@@ -28,7 +28,7 @@ columns_of s = lanes s * element_words s
 
 -- the slot of element e; the default is read of no element of the layout
 abbrev pub slot_number : StTree → ℕ → Slot
-slot_number s e = get_or (slots s) e (record { clock = 0; lane = 0 })
+slot_number s e = unwrap_or (slice_get (slots s) e) (record { clock = 0; lane = 0 })
 
 abbrev pub column_number : StTree → (element word : ℕ) → ℕ
 column_number s e j = (slot_number s e).lane * element_words s + j
@@ -39,7 +39,7 @@ first_column ins i = sum_by columns_of (take i ins)
 
 abbrev pub source_of : List StTree → OriginTree → SourceTree
 source_of ins (from_input i e j) =
-    let s = get_or ins i (sseq 0 (atom (unsigned_word 1))) in
+    let s = unwrap_or (slice_get ins i) (sseq 0 (atom (unsigned_word 1))) in
     place (slot_number s e).clock (first_column ins i + column_number s e j)
 source_of ins (fixed w) = constant w
 
@@ -49,7 +49,7 @@ trip_number ins out origins o =
     let words = element_words out in record {
       clock = (slot_number out (o / words)).clock;
       column = column_number out (o / words) (o % words);
-      source = source_of ins (get_or origins o (fixed 0));
+      source = source_of ins (unwrap_or (slice_get origins o) (fixed 0));
     }
 
 abbrev pub trips_of : (ins : List StTree) (out : StTree) (origins : List OriginTree) → List TripTree

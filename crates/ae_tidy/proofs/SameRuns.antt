@@ -1,6 +1,6 @@
 -- A run of the tidied netlist is one of the old netlist, read through the table.
 use Rattle.std.proofs.Common.{ℕ, zero, suc, ◌≡◌, ◌+◌, ◌<◌, ◌^◌, List, [], length, map, take, replicate, Option, Some, None, slice_get, get_or, inl, inr, ◌≢◌, arith, refl, ap, sym, ◌∙◌, subst}
-use Rattle.std.specs.Prelude.{◌==◌}
+use Rattle.std.specs.Prelude.{◌==◌, unwrap_or}
 use Rattle.std.specs.List.{range_with_len}
 use Rattle.std.proofs.lemmas.Bool.{cases_eq, eq-eqb, ne_eqb}
 use Rattle.std.proofs.lemmas.Nat.{pow_pos}
@@ -20,6 +20,7 @@ use Rattle.ae_netlist.specs.Runs.{Clock, no_clock, word_at, store_at, CellHolds,
 use Rattle.ae_netlist.proofs.Gets.{get_take_within}
 use Rattle.ae_netlist.proofs.Growing.{width_is}
 use Rattle.ae_netlist.proofs.Settled.{each_operand}
+use Rattle.ae_netlist.proofs.ReadAt.{store_got, word_got}
 use Rattle.ae_netlist.proofs.Shapes.{clock_shaped, each_shaped, cell_holds, each_holds}
 use Rattle.ae_tidy.specs.Images.{Maps, IsImage}
 use Rattle.ae_tidy.proofs.Copying.{image_plain}
@@ -71,15 +72,15 @@ maps_word table run t n m h = ap (word_in run t) h.found
 
 read_at : (old : List SizedCell) (table : List (Option NetId)) (run : List Clock) (t n m : ℕ) → t < length run → n < length old → Maps table n m
     → word_at (read_run old table run) t n ≡ word_at run t m
-unfolding word_at
 read_at old table run t n m l b h =
-    rw (read_is old table run t l) (get_or-map-range_with_len (read_word run table t) 0 (length old) n n 0 b (omega arith) ∙ maps_word table run t n m h)
+    rw (word_got (read_run old table run) t n, read_is old table run t l)
+    (get_or-map-range_with_len (read_word run table t) 0 (length old) n n 0 b (omega arith) ∙ maps_word table run t n m h)
 
 store_is : (old : List SizedCell) (table : List (Option NetId)) (run : List Clock) (t n m : ℕ) → t < length run → n < length old → Maps table n m
     → store_at (read_run old table run) t n ≡ store_at run t m
-unfolding store_at
 store_is old table run t n m l b h =
-    rw (read_is old table run t l) (get_or-map-range_with_len (read_store old run table t) 0 (length old) n n [] b (omega arith) ∙
+    rw (store_got (read_run old table run) t n, read_is old table run t l)
+    (get_or-map-range_with_len (read_store old run table t) 0 (length old) n n [] b (omega arith) ∙
     ap (store_in run t (depth_of old n)) h.found)
 
 -- what stands in the place of a net fits it
@@ -104,7 +105,7 @@ holds_none (Peek mem at) width = (pow_pos width, refl)
 read_holds : (old new : List SizedCell) (table : List (Option NetId)) (run : List Clock) (t n : ℕ) (sized : SizedCell) (o : Option (Option NetId))
     → AreImages old new table → IsRun new run → t < length run
     → slice_get old n ≡ Some sized → slice_get table n ≡ o → CellHolds sized.cell sized.width (word_in run t o) (store_in run t (depth_of old n) o)
-unfolding word_at store_at depth_of
+unfolding depth_of
 read_holds old new table run t n sized None a r l h e = rw h (holds_none sized.cell sized.width)
 read_holds old new table run t n sized (Some None) a r l h e = rw h (holds_none sized.cell sized.width)
 read_holds old new table run t n sized (Some (Some m)) a r l h e =
@@ -112,7 +113,8 @@ read_holds old new table run t n sized (Some (Some m)) a r l h e =
     let same : at.sized ≡ sized = (let q : Some at.sized ≡ Some sized = sym at.found ∙ h in cc) in
     let w : at.image.width ≡ sized.width = at.wide ∙ ap (λ (x : SizedCell). x.width) same in
     let like : IsImage table sized.cell at.image.cell = subst (λ (x : SizedCell). IsImage table x.cell at.image.cell) same at.alike in
-    rw (← w) (holds_back table sized.cell at.image.cell at.image.width _ _ like (cell_holds (clock_shaped r t l) m.0 at.image at.there))
+    rw (← w, word_got run t m.0, store_got run t m.0) (holds_back table sized.cell at.image.cell at.image.width _ _ like
+    (cell_holds (clock_shaped r t l) m.0 at.image at.there))
 
 read_shaped : (old new : List SizedCell) (table : List (Option NetId)) (run : List Clock) (t : ℕ) → AreImages old new table → IsRun new run → t < length run
     → IsShaped old (read_clock old table run t)
@@ -172,8 +174,7 @@ steps_of new run t m image cell r l there is = subst (λ (c : Cell). Steps run t
 -- what nets hold in a clock of a run
 holds_at : (cells : List SizedCell) (run : List Clock) (t n : ℕ) (sized : SizedCell) → IsRun cells run → t < length run → slice_get cells n ≡ Some sized
     → CellHolds sized.cell sized.width (word_at run t n) (store_at run t n)
-unfolding word_at store_at
-holds_at cells run t n sized r l h = cell_holds (clock_shaped r t l) n sized h
+holds_at cells run t n sized r l h = rw (word_got run t n, store_got run t n) (cell_holds (clock_shaped r t l) n sized h)
 
 -- a memory names itself exactly where the one in its place does
 pub same_own : (old new : List SizedCell) (table : List (Option NetId)) (n m width depth : ℕ) (at next enable to : NetId) (image : SizedCell)
@@ -270,7 +271,7 @@ same_cell old new table before after t n m width (Peek mem at) image a formed r 
     let fits = (formed.each n _ found).cell in
     let p : mem.0 < n = get_take_within old n mem.0 _ fits.memory.found in
     let q : at.0 < n = get_take_within old n at.0 fits.address.net.sized fits.address.net.found in
-    let here : word_at after t m ≡ get_or (store_at after t like.0.0) (word_at after t like.1.0) 0 = settles_of new after t m image
+    let here : word_at after t m ≡ unwrap_or (slice_get (store_at after t like.0.0) (word_at after t like.1.0)) 0 = settles_of new after t m image
     (Peek like.0 like.1) r l there like.2 in
     u.runs.settles t n _ (rw long l) found ∙ (rw (stores _ _ like.3, below _ _ q like.4) (sym here))
 

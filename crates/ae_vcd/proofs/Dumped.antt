@@ -1,6 +1,6 @@
 -- The text of a wave is a dump of it.
-use Rattle.std.proofs.Common.{ℕ, zero, suc, ◌≡◌, ◌≢◌, ◌+◌, ◌<◌, ◌≤◌, ◌^◌, List, [], ◌∷◌, ◌++◌, length, length-append, take, map, get_or, Some, None, Bool, true, false, inl, inr, arith, refl, ap, sym, ◌∙◌, subst}
-use Rattle.std.specs.Prelude.{◌&&◌, ◌||◌, ◌==◌, not, nat_eq, nat_lt, nat_le, codes, if◌then◌else◌, IsTrue}
+use Rattle.std.proofs.Common.{ℕ, zero, suc, ◌≡◌, ◌≢◌, ◌+◌, ◌<◌, ◌≤◌, ◌^◌, List, [], ◌∷◌, ◌++◌, length, length-append, take, map, slice_get, Some, None, Bool, true, false, inl, inr, arith, refl, ap, sym, ◌∙◌, subst}
+use Rattle.std.specs.Prelude.{unwrap_or, ◌&&◌, ◌||◌, ◌==◌, not, nat_eq, nat_lt, nat_le, codes, if◌then◌else◌, IsTrue}
 use Rattle.std.specs.List.{flat_map, list_all}
 use Rattle.std.specs.Str.{bytes_eq}
 use Rattle.std.specs.Str.Parse.{digits_value}
@@ -8,6 +8,7 @@ use Rattle.std.specs.Fmt.{decimal, digits}
 use Rattle.std.proofs.lemmas.Bool.{cases_lt, eqb-true, lt-ltb, le-leb}
 use Rattle.std.proofs.lemmas.Fmt.{decimal_digit}
 use Rattle.std.proofs.lemmas.List.{append_assoc, map-append, take_more}
+use Rattle.std.proofs.lemmas.Option.{unwrap_or-slice_get}
 use Rattle.std.proofs.lemmas.List.Elements.{All-get_or}
 use Rattle.std.proofs.Math.Pow.{pow_mono}
 use Rattle.std.proofs.Math.Seq.{take-length}
@@ -51,7 +52,7 @@ abbrev end_command : HeaderCommand
 end_command = Other (codes "$upscope") []
 
 abbrev var_command : WaveTree → (k : ℕ) → HeaderCommand
-var_command w k = Declare (codes "wire") (decimal (get_or w.widths k 0)) (code_of k) (get_or w.names k []) []
+var_command w k = Declare (codes "wire") (decimal (unwrap_or (slice_get w.widths k) 0)) (code_of k) (unwrap_or (slice_get w.names k) []) []
 
 abbrev first_commands : WaveTree → (count : ℕ) → List HeaderCommand
 first_commands w zero = scale_command ∷ scope_command ∷ []
@@ -102,11 +103,11 @@ takes_last (u ∷ vs) v code value e f = one (bytes_eq u.code code && nat_lt val
     one false h = h
 
 module _ (w : WaveTree) (h : IsFormedWave w) where
-  width_in : (k : ℕ) → k < length w.names → (1 ≤ get_or w.widths k 0) × (get_or w.widths k 0 ≤ 64)
-  width_in k l = All-get_or (λ v. (1 ≤ v) × (v ≤ 64)) w.widths k 0 (omega (arith, h.sized)) h.wide
+  width_in : (k : ℕ) → k < length w.names → (1 ≤ unwrap_or (slice_get w.widths k) 0) × (unwrap_or (slice_get w.widths k) 0 ≤ 64)
+  width_in k l = rw (unwrap_or-slice_get w.widths k 0) (All-get_or (λ v. (1 ≤ v) × (v ≤ 64)) w.widths k 0 (omega (arith, h.sized)) h.wide)
 
-  named : (k : ℕ) → k < length w.names → is_variable_name (get_or w.names k []) ≡ true
-  named k l = All-get_or (λ n. IsTrue (is_variable_name n)) w.names k [] l h.named
+  named : (k : ℕ) → k < length w.names → is_variable_name (unwrap_or (slice_get w.names k) []) ≡ true
+  named k l = rw (unwrap_or-slice_get w.names k []) (All-get_or (λ n. IsTrue (is_variable_name n)) w.names k [] l h.named)
 
   few : (k : ℕ) → k < length w.names → k < 830584
   few k l = omega (arith, h.most)
@@ -114,11 +115,11 @@ module _ (w : WaveTree) (h : IsFormedWave w) where
   small : (n : ℕ) → n ≤ 64 → n < 2 ^ 64
   small n l = omega arith
 
-  width_read : (k : ℕ) → k < length w.names → IsDecimal (get_or w.widths k 0)
-  width_read k l = decimal_read (get_or w.widths k 0) (small (get_or w.widths k 0) (width_in k l).1)
+  width_read : (k : ℕ) → k < length w.names → IsDecimal (unwrap_or (slice_get w.widths k) 0)
+  width_read k l = decimal_read (unwrap_or (slice_get w.widths k) 0) (small (unwrap_or (slice_get w.widths k) 0) (width_in k l).1)
 
-  time_read : (i : ℕ) → i < length w.times → IsDecimal (get_or w.times i 0)
-  time_read i l = decimal_read (get_or w.times i 0) (All-get_or (λ t. t < 2 ^ 64) w.times i 0 l h.late)
+  time_read : (i : ℕ) → i < length w.times → IsDecimal (unwrap_or (slice_get w.times i) 0)
+  time_read i l = decimal_read (unwrap_or (slice_get w.times i) 0) (rw (unwrap_or-slice_get w.times i 0) (All-get_or (λ t. t < 2 ^ 64) w.times i 0 l h.late))
 
   many : (count : ℕ) → length (wave_variables w count) ≡ count
   many zero = refl
@@ -141,11 +142,13 @@ module _ (w : WaveTree) (h : IsFormedWave w) where
   var_is k l =
       let n = width_read k l in
       let r = width_in k l in
-      let low : nat_le 1 (digits_value 10 (decimal (get_or w.widths k 0))) ≡ true = rw n.value (le-leb 1 (get_or w.widths k 0) r.0) in
-      let high : nat_le (digits_value 10 (decimal (get_or w.widths k 0))) 64 ≡ true = rw n.value (le-leb (get_or w.widths k 0) 64 r.1) in (
+      let low : nat_le 1 (digits_value 10 (decimal (unwrap_or (slice_get w.widths k) 0))) ≡ true = rw n.value
+      (le-leb 1 (unwrap_or (slice_get w.widths k) 0) r.0) in
+      let high : nat_le (digits_value 10 (decimal (unwrap_or (slice_get w.widths k) 0))) 64 ≡ true = rw n.value
+      (le-leb (unwrap_or (slice_get w.widths k) 0) 64 r.1) in (
         omega (arith, many k, h.most),
         rw (n.number, low, high) refl,
-        rw (code_is_code k (few k l), codes_agree k k (digits_value 10 (decimal (get_or w.widths k 0))) l (omega arith)) refl,
+        rw (code_is_code k (few k l), codes_agree k k (digits_value 10 (decimal (unwrap_or (slice_get w.widths k) 0))) l (omega arith)) refl,
         named k l,
         refl,
       )
@@ -160,8 +163,8 @@ module _ (w : WaveTree) (h : IsFormedWave w) where
 
   var_words : (k : ℕ) (rest : List ℕ) → k < length w.names → text_words (var_line w k ++ rest) ≡ command_words (var_command w k) ++ text_words rest
   var_words k rest l =
-      let d : List ℕ = decimal (get_or w.widths k 0) in
-      let n : List ℕ = get_or w.names k [] in
+      let d : List ℕ = decimal (unwrap_or (slice_get w.widths k) 0) in
+      let n : List ℕ = unwrap_or (slice_get w.names k) [] in
       let end : List ℕ = codes " $end\n" in
       ap (λ (x : List ℕ). codes "$var" ∷ codes "wire" ∷ text_words x) (append_assoc d (codes " " ++ (code_of k ++ (codes " " ++ (n ++ end)))) rest)
       ∙ (ap (λ (x : List (List ℕ)). codes "$var" ∷ codes "wire" ∷ x)
@@ -189,7 +192,7 @@ module _ (w : WaveTree) (h : IsFormedWave w) where
   below_64 word width l b = (let p : 2 ^ width ≤ 2 ^ 64 = pow_mono l in omega arith)
 
   word_small : (i k : ℕ) → i < length w.times → k < length w.names → wave_word w i k < 2 ^ 64
-  word_small i k t l = below_64 (wave_word w i k) (get_or w.widths k 0) (width_in k l).1 (h.fit i k t l)
+  word_small i k t l = below_64 (wave_word w i k) (unwrap_or (slice_get w.widths k) 0) (width_in k l).1 (h.fit i k t l)
 
   own_given : (k width word was : ℕ) → width ≤ 64 → word < 2 ^ width → given (code_of k) (change_piece width word k) was ≡ word
   own_given k width word was l b = cases (width == 1) refl
@@ -212,15 +215,16 @@ module _ (w : WaveTree) (h : IsFormedWave w) where
       cases true = rw (codes_differ j k (few j a) (few k b) ne) refl
       cases false = rw (codes_differ j k (few j a) (few k b) ne) refl
 
-  rises : (i j : ℕ) → i < j → j < length w.times → get_or w.times i 0 < get_or w.times j 0
+  rises : (i j : ℕ) → i < j → j < length w.times → unwrap_or (slice_get w.times i) 0 < unwrap_or (slice_get w.times j) 0
   rises i zero l b = absurd (omega arith)
   rises i (suc j) l b =
       let one : j + 1 ≡ suc j = omega arith in
-      let next : get_or w.times j 0 < get_or w.times (suc j) 0 = subst (λ n. get_or w.times j 0 < get_or w.times n 0) one (h.rise j (omega arith)) in
+      let next : unwrap_or (slice_get w.times j) 0 < unwrap_or (slice_get w.times (suc j)) 0 = subst
+      (λ n. unwrap_or (slice_get w.times j) 0 < unwrap_or (slice_get w.times n) 0) one (h.rise j (omega arith)) in
       elim (cases_lt i j) [
         | inl lt ↦ (let r = rises i j lt (omega arith) in omega arith)
         | inr
-            le ↦ (let e : j ≡ i = omega arith in subst (λ n. get_or w.times n 0 < get_or w.times (suc j) 0) e next)
+            le ↦ (let e : j ≡ i = omega arith in subst (λ n. unwrap_or (slice_get w.times n) 0 < unwrap_or (slice_get w.times (suc j)) 0) e next)
       ]
 
   pub has_codes : HasCodes w
@@ -236,19 +240,20 @@ module _ (w : WaveTree) (h : IsFormedWave w) where
   -- ---- the words of changes and times
 
   change_words : (i k : ℕ) (rest : List ℕ) → i < length w.times → k < length w.names
-      → text_words (change_line (get_or w.widths k 0) (wave_word w i k) k ++ rest) ≡ piece_words (change_piece (get_or w.widths k 0) (wave_word w i k) k)
+      → text_words (change_line (unwrap_or (slice_get w.widths k) 0) (wave_word w i k) k ++ rest) ≡ piece_words
+      (change_piece (unwrap_or (slice_get w.widths k) 0) (wave_word w i k) k)
       ++ text_words rest
-  change_words i k rest t l = cases (get_or w.widths k 0 == 1) refl
+  change_words i k rest t l = cases (unwrap_or (slice_get w.widths k) 0 == 1) refl
     where
       word : ℕ
       word = wave_word w i k
 
-      cases : (c : Bool) → (get_or w.widths k 0 == 1) ≡ c
+      cases : (c : Bool) → (unwrap_or (slice_get w.widths k) 0 == 1) ≡ c
           → text_words ((if c then decimal (wave_word w i k) ++ (code_of k ++ codes "\n") else codes "b"
           ++ (digits 2 false (wave_word w i k) ++ (codes " " ++ (code_of k ++ codes "\n")))) ++ rest)
           ≡ piece_words (if c then Bit (48 + wave_word w i k) (code_of k) else Binary 98 (digits 2 false (wave_word w i k)) (code_of k)) ++ text_words rest
       cases true e =
-          let one : get_or w.widths k 0 ≡ 1 = eqb-true (get_or w.widths k 0) 1 e in
+          let one : unwrap_or (slice_get w.widths k) 0 ≡ 1 = eqb-true (unwrap_or (slice_get w.widths k) 0) 1 e in
           let low : wave_word w i k < 2 ^ 1 = subst (λ v. wave_word w i k < 2 ^ v) one (h.fit i k t l) in
           let digit : decimal (wave_word w i k) ≡ (48 + wave_word w i k) ∷ [] = decimal_digit (wave_word w i k) (omega arith) in
           let g : is_graphic (48 + wave_word w i k) ≡ true = bit_graphic (wave_word w i k) (omega arith) in
@@ -268,10 +273,10 @@ module _ (w : WaveTree) (h : IsFormedWave w) where
       → text_words (changed_line w i k ++ rest) ≡ words_of_pieces (changed_pieces w i k) ++ text_words rest
   changed_words i k rest t l = cases (is_changed w i k)
     where
-      cases : (c : Bool) → text_words ((if c then change_line (get_or w.widths k 0) (wave_word w i k) k else []) ++ rest) ≡ words_of_pieces
-          (if c then change_piece (get_or w.widths k 0) (wave_word w i k) k ∷ [] else []) ++ text_words rest
+      cases : (c : Bool) → text_words ((if c then change_line (unwrap_or (slice_get w.widths k) 0) (wave_word w i k) k else []) ++ rest) ≡ words_of_pieces
+          (if c then change_piece (unwrap_or (slice_get w.widths k) 0) (wave_word w i k) k ∷ [] else []) ++ text_words rest
       cases true = change_words i k rest t l ∙ ap (λ (x : List (List ℕ)). x ++ text_words rest)
-          (sym (append_none (piece_words (change_piece (get_or w.widths k 0) (wave_word w i k) k))))
+          (sym (append_none (piece_words (change_piece (unwrap_or (slice_get w.widths k) 0) (wave_word w i k) k))))
       cases false = refl
 
   pieces_append : (ps qs : List Piece) → words_of_pieces (ps ++ qs) ≡ words_of_pieces ps ++ words_of_pieces qs
@@ -291,7 +296,7 @@ module _ (w : WaveTree) (h : IsFormedWave w) where
 
   time_words : (i : ℕ) (rest : List ℕ) → i < length w.times → text_words (time_lines w i ++ rest) ≡ words_of_pieces (time_pieces w i) ++ text_words rest
   time_words i rest t =
-      let d : List ℕ = decimal (get_or w.times i 0) in
+      let d : List ℕ = decimal (unwrap_or (slice_get w.times i) 0) in
       ap (λ (x : List ℕ). text_words (35 ∷ x)) (append_assoc d (codes "\n" ++ change_lines w i (length w.names)) rest)
       ∙ (word_then (35 ∷ d) 10 (change_lines w i (length w.names) ++ rest) (code_cons 35 d refl (time_read i t).graphic) refl
       ∙ ap (λ (x : List (List ℕ)). (35 ∷ d) ∷ x) (changes_words i (length w.names) rest t (omega arith)))
@@ -308,14 +313,15 @@ module _ (w : WaveTree) (h : IsFormedWave w) where
 
   -- ---- the pieces are pieces
 
-  bit_there : (k count : ℕ) → k < count → (digits_value 10 (decimal (get_or w.widths k 0)) == 1) ≡ true → is_bit (wave_variables w count) (code_of k) ≡ true
+  bit_there : (k count : ℕ) → k < count → (digits_value 10 (decimal (unwrap_or (slice_get w.widths k) 0)) == 1) ≡ true
+      → is_bit (wave_variables w count) (code_of k) ≡ true
   bit_there k zero l e = absurd (omega arith)
   bit_there k (suc c) l e = elim (cases_lt k c) [
     | inl lt ↦ bit_more (wave_variables w c) (wave_variable w c ∷ []) (code_of k) (bit_there k c lt e)
     | inr le ↦ (let is : c ≡ k = omega arith in rw is (bit_last (wave_variables w k) (wave_variable w k) (code_of k) (code_itself k) e))
   ]
 
-  takes_there : (k count value : ℕ) → k < count → nat_lt value (2 ^ digits_value 10 (decimal (get_or w.widths k 0))) ≡ true
+  takes_there : (k count value : ℕ) → k < count → nat_lt value (2 ^ digits_value 10 (decimal (unwrap_or (slice_get w.widths k) 0))) ≡ true
       → takes (wave_variables w count) (code_of k) value ≡ true
   takes_there k zero value l e = absurd (omega arith)
   takes_there k (suc c) value l e = elim (cases_lt k c) [
@@ -324,13 +330,13 @@ module _ (w : WaveTree) (h : IsFormedWave w) where
   ]
 
   change_is : (i k t : ℕ) → i < length w.times → k < length w.names
-      → IsPiece (wave_variables w (length w.names)) (Some t) (change_piece (get_or w.widths k 0) (wave_word w i k) k)
-  change_is i k t a l = cases (get_or w.widths k 0 == 1) refl
+      → IsPiece (wave_variables w (length w.names)) (Some t) (change_piece (unwrap_or (slice_get w.widths k) 0) (wave_word w i k) k)
+  change_is i k t a l = cases (unwrap_or (slice_get w.widths k) 0 == 1) refl
     where
-      cases : (c : Bool) → (get_or w.widths k 0 == 1) ≡ c → IsPiece (wave_variables w (length w.names)) (Some t)
+      cases : (c : Bool) → (unwrap_or (slice_get w.widths k) 0 == 1) ≡ c → IsPiece (wave_variables w (length w.names)) (Some t)
           (if c then Bit (48 + wave_word w i k) (code_of k) else Binary 98 (digits 2 false (wave_word w i k)) (code_of k))
       cases true e =
-          let one : get_or w.widths k 0 ≡ 1 = eqb-true (get_or w.widths k 0) 1 e in
+          let one : unwrap_or (slice_get w.widths k) 0 ≡ 1 = eqb-true (unwrap_or (slice_get w.widths k) 0) 1 e in
           let low : wave_word w i k < 2 ^ 1 = subst (λ v. wave_word w i k < 2 ^ v) one (h.fit i k a l) in
           (bit_ok (wave_word w i k) (omega arith), bit_there k (length w.names) l (rw (width_read k l).value e))
       cases false e =
@@ -339,54 +345,57 @@ module _ (w : WaveTree) (h : IsFormedWave w) where
             refl,
             r.binary,
             takes_there k (length w.names) (digits_value 2 (digits 2 false (wave_word w i k))) l
-                (rw (r.value, (width_read k l).value) (lt-ltb (wave_word w i k) (2 ^ get_or w.widths k 0) (h.fit i k a l))),
+                (rw (r.value, (width_read k l).value) (lt-ltb (wave_word w i k) (2 ^ unwrap_or (slice_get w.widths k) 0) (h.fit i k a l))),
           )
 
-  changed_are : (ps : List Piece) (i k : ℕ) → i < length w.times → k < length w.names → time_of None ps ≡ Some (get_or w.times i 0)
+  changed_are : (ps : List Piece) (i k : ℕ) → i < length w.times → k < length w.names → time_of None ps ≡ Some (unwrap_or (slice_get w.times i) 0)
       → ArePieces (wave_variables w (length w.names)) None ps → ArePieces (wave_variables w (length w.names)) None (ps ++ changed_pieces w i k)
   changed_are ps i k t l e a = cases (is_changed w i k)
     where
       cases : (c : Bool) → ArePieces (wave_variables w (length w.names)) None
-          (ps ++ (if c then change_piece (get_or w.widths k 0) (wave_word w i k) k ∷ [] else []))
-      cases true = pieces_more (wave_variables w (length w.names)) None ps (change_piece (get_or w.widths k 0) (wave_word w i k) k) a
-          (subst (λ o. IsPiece (wave_variables w (length w.names)) o (change_piece (get_or w.widths k 0) (wave_word w i k) k)) (sym e)
-          (change_is i k (get_or w.times i 0) t l))
+          (ps ++ (if c then change_piece (unwrap_or (slice_get w.widths k) 0) (wave_word w i k) k ∷ [] else []))
+      cases true = pieces_more (wave_variables w (length w.names)) None ps (change_piece (unwrap_or (slice_get w.widths k) 0) (wave_word w i k) k) a
+          (subst (λ o. IsPiece (wave_variables w (length w.names)) o (change_piece (unwrap_or (slice_get w.widths k) 0) (wave_word w i k) k)) (sym e)
+          (change_is i k (unwrap_or (slice_get w.times i) 0) t l))
       cases false = subst (λ (l : List Piece). ArePieces (wave_variables w (length w.names)) None l) (sym (append_none ps)) a
 
-  changes_are : (ps : List Piece) (i count : ℕ) → i < length w.times → count ≤ length w.names → time_of None ps ≡ Some (get_or w.times i 0)
+  changes_are : (ps : List Piece) (i count : ℕ) → i < length w.times → count ≤ length w.names → time_of None ps ≡ Some (unwrap_or (slice_get w.times i) 0)
       → ArePieces (wave_variables w (length w.names)) None ps → ArePieces (wave_variables w (length w.names)) None (ps ++ change_pieces w i count)
   changes_are ps i zero t l e a = subst (λ (l : List Piece). ArePieces (wave_variables w (length w.names)) None l) (sym (append_none ps)) a
   changes_are ps i (suc k) t l e a =
-      let now : time_of None (ps ++ change_pieces w i k) ≡ Some (get_or w.times i 0) = time_append None ps (change_pieces w i k) ∙
-      (ap (λ o. time_of o (change_pieces w i k)) e ∙ quiet_time (Some (get_or w.times i 0)) (change_pieces w i k) (changes_no_time w i k)) in
+      let now : time_of None (ps ++ change_pieces w i k) ≡ Some (unwrap_or (slice_get w.times i) 0) = time_append None ps (change_pieces w i k) ∙
+      (ap (λ o. time_of o (change_pieces w i k)) e ∙ quiet_time (Some (unwrap_or (slice_get w.times i) 0)) (change_pieces w i k) (changes_no_time w i k)) in
       subst (λ (l : List Piece). ArePieces (wave_variables w (length w.names)) None l) (append_assoc ps (change_pieces w i k) (changed_pieces w i k))
       (changed_are (ps ++ change_pieces w i k) i k t l now (changes_are ps i k t (omega arith) e a))
 
-  time_is : (i : ℕ) → i < length w.times → IsPiece (wave_variables w (length w.names)) (time_of None (body_pieces w i)) (Time (decimal (get_or w.times i 0)))
+  time_is : (i : ℕ) → i < length w.times → IsPiece (wave_variables w (length w.names)) (time_of None (body_pieces w i))
+      (Time (decimal (unwrap_or (slice_get w.times i) 0)))
   time_is i t =
       let r = time_read i t in
-      let late : nat_lt (digits_value 10 (decimal (get_or w.times i 0))) (2 ^ 64) ≡ true = rw r.value
-      (lt-ltb (get_or w.times i 0) (2 ^ 64) (All-get_or (λ t. t < 2 ^ 64) w.times i 0 t h.late)) in
+      let late : nat_lt (digits_value 10 (decimal (unwrap_or (slice_get w.times i) 0))) (2 ^ 64) ≡ true = rw r.value
+      (lt-ltb (unwrap_or (slice_get w.times i) 0) (2 ^ 64) (rw (unwrap_or-slice_get w.times i 0) (All-get_or (λ t. t < 2 ^ 64) w.times i 0 t h.late))) in
       rw (r.number, r.short, late, after i t) refl
     where
-      after : (i : ℕ) → i < length w.times → is_after (time_of None (body_pieces w i)) (digits_value 10 (decimal (get_or w.times i 0))) ≡ true
+      after : (i : ℕ) → i < length w.times → is_after (time_of None (body_pieces w i)) (digits_value 10 (decimal (unwrap_or (slice_get w.times i) 0))) ≡ true
       after zero t = refl
       after (suc i) t =
-          let before : time_of None (body_pieces w (suc i)) ≡ Some (get_or w.times i 0) = body_time w has_codes i (omega arith) in
-          let le : nat_le (get_or w.times i 0) (digits_value 10 (decimal (get_or w.times (suc i) 0))) ≡ true = rw (time_read (suc i) t).value
-          (le-leb (get_or w.times i 0) (get_or w.times (suc i) 0) (let r = rises i (suc i) (omega arith) t in omega arith)) in
-          ap (λ o. is_after o (digits_value 10 (decimal (get_or w.times (suc i) 0)))) before ∙ le
+          let before : time_of None (body_pieces w (suc i)) ≡ Some (unwrap_or (slice_get w.times i) 0) = body_time w has_codes i (omega arith) in
+          let le : nat_le (unwrap_or (slice_get w.times i) 0)
+          (digits_value 10 (decimal (unwrap_or (slice_get w.times (suc i)) 0))) ≡ true = rw (time_read (suc i) t).value
+          (le-leb (unwrap_or (slice_get w.times i) 0) (unwrap_or (slice_get w.times (suc i)) 0) (let r = rises i (suc i) (omega arith) t in omega arith)) in
+          ap (λ o. is_after o (digits_value 10 (decimal (unwrap_or (slice_get w.times (suc i)) 0)))) before ∙ le
 
   body_are : (count : ℕ) → count ≤ length w.times → ArePieces (wave_variables w (length w.names)) None (body_pieces w count)
   body_are zero l = tt
   body_are (suc i) l =
-      let first : List Piece = body_pieces w i ++ Time (decimal (get_or w.times i 0)) ∷ [] in
-      let now : time_of None first ≡ Some (get_or w.times i 0) = time_append None (body_pieces w i) (Time (decimal (get_or w.times i 0)) ∷ []) ∙
+      let first : List Piece = body_pieces w i ++ Time (decimal (unwrap_or (slice_get w.times i) 0)) ∷ [] in
+      let now : time_of None first ≡ Some (unwrap_or (slice_get w.times i) 0) = time_append None (body_pieces w i)
+      (Time (decimal (unwrap_or (slice_get w.times i) 0)) ∷ []) ∙
       ap (λ n. Some n) (time_read i l).value in
       subst (λ (l : List Piece). ArePieces (wave_variables w (length w.names)) None l)
-      (snoc (body_pieces w i) (Time (decimal (get_or w.times i 0))) (change_pieces w i (length w.names)))
+      (snoc (body_pieces w i) (Time (decimal (unwrap_or (slice_get w.times i) 0))) (change_pieces w i (length w.names)))
       (changes_are first i (length w.names) l (omega arith) now
-      (pieces_more (wave_variables w (length w.names)) None (body_pieces w i) (Time (decimal (get_or w.times i 0))) (body_are i (omega arith))
+      (pieces_more (wave_variables w (length w.names)) None (body_pieces w i) (Time (decimal (unwrap_or (slice_get w.times i) 0))) (body_are i (omega arith))
       (time_is i l)))
 
   -- ---- all together
@@ -423,8 +432,9 @@ module _ (w : WaveTree) (h : IsFormedWave w) where
   names_meant (suc k) l =
       let one : k + 1 ≡ suc k = omega arith in
       map-append (λ (v : Variable). v.name) (wave_variables w k) (wave_variable w k ∷ [])
-      ∙ (ap (λ (x : List (List ℕ)). x ++ get_or w.names k [] ∷ []) (names_meant k (omega arith)) ∙
-      (sym (take_more w.names k [] l) ∙ ap (λ n. take n w.names) one))
+      ∙ (ap (λ (x : List (List ℕ)). x ++ unwrap_or (slice_get w.names k) [] ∷ []) (names_meant k (omega arith)) ∙
+      (ap (λ (x : List ℕ). take k w.names ++ x ∷ []) (unwrap_or-slice_get w.names k []) ∙
+      (sym (take_more w.names k [] l) ∙ ap (λ n. take n w.names) one)))
 
   widths_meant : (count : ℕ) → count ≤ length w.names → map (λ (v : Variable). v.width) (wave_variables w count) ≡ take count w.widths
   widths_meant zero l = refl
@@ -432,7 +442,8 @@ module _ (w : WaveTree) (h : IsFormedWave w) where
       let one : k + 1 ≡ suc k = omega arith in
       map-append (λ (v : Variable). v.width) (wave_variables w k) (wave_variable w k ∷ [])
       ∙ ((λ i. widths_meant k (omega arith) i ++ (width_read k l).value i ∷ []) ∙
-      (sym (take_more w.widths k 0 (omega (arith, h.sized))) ∙ ap (λ n. take n w.widths) one))
+      (ap (λ x. take k w.widths ++ x ∷ []) (unwrap_or-slice_get w.widths k 0) ∙
+      (sym (take_more w.widths k 0 (omega (arith, h.sized))) ∙ ap (λ n. take n w.widths) one)))
 
   wave_meant : w ≡ wave_of (wave_variables w (length w.names)) (body_pieces w (length w.times))
   wave_meant =

@@ -1,6 +1,6 @@
 -- The pieces of a wave's text give its words.
-use Rattle.std.proofs.Common.{ℕ, zero, suc, ◌≡◌, ◌≢◌, ◌+◌, ◌*◌, ◌<◌, ◌≤◌, ◌^◌, List, [], ◌∷◌, ◌++◌, length, length-drop, take, drop, map, get_or, Option, Some, None, Bool, true, false, inl, inr, arith, refl, ap, sym, ◌∙◌}
-use Rattle.std.specs.Prelude.{◌==◌, not, nat_lt, if◌then◌else◌}
+use Rattle.std.proofs.Common.{ℕ, zero, suc, ◌≡◌, ◌≢◌, ◌+◌, ◌*◌, ◌<◌, ◌≤◌, ◌^◌, List, [], ◌∷◌, ◌++◌, length, length-drop, take, drop, map, slice_get, Option, Some, None, Bool, true, false, inl, inr, arith, refl, ap, sym, ◌∙◌}
+use Rattle.std.specs.Prelude.{unwrap_or, ◌==◌, not, nat_lt, if◌then◌else◌}
 use Rattle.std.specs.List.{flat_map}
 use Rattle.std.specs.Str.Parse.{digits_value}
 use Rattle.std.specs.Fmt.{decimal, digits}
@@ -9,6 +9,7 @@ use Rattle.std.proofs.lemmas.List.{get_or-drop, map-append, take_more}
 use Rattle.std.proofs.lemmas.Grind.{flat_map-append}
 use Rattle.std.proofs.Math.Nat.{mul-le-mul_right}
 use Rattle.std.proofs.Math.Seq.{take-length}
+use Rattle.std.proofs.lemmas.Option.{unwrap_or-slice_get}
 use Rattle.ae_vcd.specs.Waves.{WaveTree, wave_word}
 use Rattle.ae_vcd.specs.WaveText.{code_of, is_changed}
 use Rattle.ae_vcd.specs.Forms.{Binary, Bit, Comment, Piece, Silent, Time, Variable, time_after}
@@ -66,14 +67,14 @@ abbrev pub change_piece : (width word k : ℕ) → Piece
 change_piece width word k = if width == 1 then Bit (48 + word) (code_of k) else Binary 98 (digits 2 false word) (code_of k)
 
 abbrev pub changed_pieces : WaveTree → (i k : ℕ) → List Piece
-changed_pieces w i k = if is_changed w i k then change_piece (get_or w.widths k 0) (wave_word w i k) k ∷ [] else []
+changed_pieces w i k = if is_changed w i k then change_piece (unwrap_or (slice_get w.widths k) 0) (wave_word w i k) k ∷ [] else []
 
 abbrev pub change_pieces : WaveTree → (i count : ℕ) → List Piece
 change_pieces w i zero = []
 change_pieces w i (suc k) = change_pieces w i k ++ changed_pieces w i k
 
 abbrev pub time_pieces : WaveTree → (i : ℕ) → List Piece
-time_pieces w i = Time (decimal (get_or w.times i 0)) ∷ change_pieces w i (length w.names)
+time_pieces w i = Time (decimal (unwrap_or (slice_get w.times i) 0)) ∷ change_pieces w i (length w.names)
 
 abbrev pub body_pieces : WaveTree → (count : ℕ) → List Piece
 body_pieces w zero = []
@@ -81,7 +82,8 @@ body_pieces w (suc i) = body_pieces w i ++ time_pieces w i
 
 -- the variables of a wave as they are declared
 abbrev pub wave_variable : WaveTree → (k : ℕ) → Variable
-wave_variable w k = record { width = digits_value 10 (decimal (get_or w.widths k 0)); code = code_of k; name = get_or w.names k [] }
+wave_variable w k =
+    record { width = digits_value 10 (decimal (unwrap_or (slice_get w.widths k) 0)); code = code_of k; name = unwrap_or (slice_get w.names k) [] }
 
 abbrev pub wave_variables : WaveTree → (count : ℕ) → List Variable
 wave_variables w zero = []
@@ -101,7 +103,7 @@ changes_quiet : (w : WaveTree) (t i count : ℕ) → none_later t (change_pieces
 changes_quiet w t i zero = tt
 changes_quiet w t i (suc k) =
     later_append t (change_pieces w i k) (changed_pieces w i k) (changes_quiet w t i k)
-    (change_quiet t (is_changed w i k) (get_or w.widths k 0) (wave_word w i k) k [])
+    (change_quiet t (is_changed w i k) (unwrap_or (slice_get w.widths k) 0) (wave_word w i k) k [])
 
 -- ---- times
 
@@ -154,7 +156,7 @@ times_append before (Comment rest ∷ ps) qs = times_append before ps qs
 pub changes_no_time : (w : WaveTree) (i count : ℕ) → is_quiet (change_pieces w i count)
 changes_no_time w i zero = tt
 changes_no_time w i (suc k) =
-    quiet_append (change_pieces w i k) (changed_pieces w i k) (changes_no_time w i k) (one (is_changed w i k) (get_or w.widths k 0 == 1))
+    quiet_append (change_pieces w i k) (changed_pieces w i k) (changes_no_time w i k) (one (is_changed w i k) (unwrap_or (slice_get w.widths k) 0 == 1))
   where
     one : (b c : Bool) → is_quiet (if b then (if c then Bit (48 + wave_word w i k) (code_of k) else Binary 98 (digits 2 false (wave_word w i k)) (code_of k))
         ∷ [] else [])
@@ -164,12 +166,12 @@ changes_no_time w i (suc k) =
 
 -- what the code of a variable is given by the changes of others, and by its own
 pub record HasCodes (w : WaveTree) : Type 0 where
-  pub wide : (k : ℕ) → k < length w.names → get_or w.widths k 0 ≤ 64
+  pub wide : (k : ℕ) → k < length w.names → unwrap_or (slice_get w.widths k) 0 ≤ 64
   pub own : (k width word was : ℕ) → k < length w.names → width ≤ 64 → word < 2 ^ width → given (code_of k) (change_piece width word k) was ≡ word
   pub other : (j k width word was : ℕ) → j < length w.names → k < length w.names → j ≢ k → given (code_of k) (change_piece width word j) was ≡ was
-  pub read : (i : ℕ) → i < length w.times → digits_value 10 (decimal (get_or w.times i 0)) ≡ get_or w.times i 0
-  pub fit : (i k : ℕ) → i < length w.times → k < length w.names → wave_word w i k < 2 ^ get_or w.widths k 0
-  pub rise : (i j : ℕ) → i < j → j < length w.times → get_or w.times i 0 < get_or w.times j 0
+  pub read : (i : ℕ) → i < length w.times → digits_value 10 (decimal (unwrap_or (slice_get w.times i) 0)) ≡ unwrap_or (slice_get w.times i) 0
+  pub fit : (i k : ℕ) → i < length w.times → k < length w.names → wave_word w i k < 2 ^ unwrap_or (slice_get w.widths k) 0
+  pub rise : (i j : ℕ) → i < j → j < length w.times → unwrap_or (slice_get w.times i) 0 < unwrap_or (slice_get w.times j) 0
 
 module _ (w : WaveTree) (h : HasCodes w) where
   -- the word of a variable, where it had that of the time before
@@ -191,8 +193,9 @@ module _ (w : WaveTree) (h : HasCodes w) where
       last_append (code_of k) was (change_pieces w i c) (changed_pieces w i c)
       ∙ (one (is_changed w i c) (last_given (code_of k) was (change_pieces w i c)) ∙ others_given i k c was l (omega arith))
     where
-      one : (b : Bool) (was : ℕ) → last_given (code_of k) was (if b then change_piece (get_or w.widths c 0) (wave_word w i c) c ∷ [] else []) ≡ was
-      one true was = h.other c k (get_or w.widths c 0) (wave_word w i c) was (omega arith) l (λ e. absurd (omega arith))
+      one : (b : Bool) (was : ℕ) → last_given (code_of k) was
+          (if b then change_piece (unwrap_or (slice_get w.widths c) 0) (wave_word w i c) c ∷ [] else []) ≡ was
+      one true was = h.other c k (unwrap_or (slice_get w.widths c) 0) (wave_word w i c) was (omega arith) l (λ e. absurd (omega arith))
       one false was = refl
 
   group_given : (i k count was : ℕ) → i < length w.times → k < length w.names → k < count → count ≤ length w.names → IsBefore i k was
@@ -209,13 +212,14 @@ module _ (w : WaveTree) (h : HasCodes w) where
             (ap (λ (j : ℕ). last_given (code_of k) was (changed_pieces w i j)) is ∙ mine (is_changed w i k) refl)
       ]
     where
-      later : (b : Bool) (was : ℕ) → k < c → last_given (code_of k) was (if b then change_piece (get_or w.widths c 0) (wave_word w i c) c ∷ [] else []) ≡ was
-      later true was lt = h.other c k (get_or w.widths c 0) (wave_word w i c) was (omega arith) l (λ e. absurd (omega arith))
+      later : (b : Bool) (was : ℕ) → k < c → last_given (code_of k) was
+          (if b then change_piece (unwrap_or (slice_get w.widths c) 0) (wave_word w i c) c ∷ [] else []) ≡ was
+      later true was lt = h.other c k (unwrap_or (slice_get w.widths c) 0) (wave_word w i c) was (omega arith) l (λ e. absurd (omega arith))
       later false was lt = refl
 
       mine : (b : Bool) → is_changed w i k ≡ b → last_given (code_of k) was
-          (if b then change_piece (get_or w.widths k 0) (wave_word w i k) k ∷ [] else []) ≡ wave_word w i k
-      mine true e = h.own k (get_or w.widths k 0) (wave_word w i k) was l (h.wide k l) (h.fit i k t l)
+          (if b then change_piece (unwrap_or (slice_get w.widths k) 0) (wave_word w i k) k ∷ [] else []) ≡ wave_word w i k
+      mine true e = h.own k (unwrap_or (slice_get w.widths k) 0) (wave_word w i k) was l (h.wide k l) (h.fit i k t l)
       mine false e = same_word i k was e before
 
   -- after the first times, each variable has its word of the last of them
@@ -227,57 +231,65 @@ module _ (w : WaveTree) (h : HasCodes w) where
 
   -- ---- what stands up to a time
 
-  body_quiet : (i count : ℕ) → i < length w.times → count ≤ suc i → none_later (get_or w.times i 0) (body_pieces w count)
+  body_quiet : (i count : ℕ) → i < length w.times → count ≤ suc i → none_later (unwrap_or (slice_get w.times i) 0) (body_pieces w count)
   body_quiet i zero t l = tt
-  body_quiet i (suc c) t l = later_append (get_or w.times i 0) (body_pieces w c) (time_pieces w c) (body_quiet i c t (omega arith))
-      (not_later, changes_quiet w (get_or w.times i 0) c (length w.names))
+  body_quiet i (suc c) t l = later_append (unwrap_or (slice_get w.times i) 0) (body_pieces w c) (time_pieces w c) (body_quiet i c t (omega arith))
+      (not_later, changes_quiet w (unwrap_or (slice_get w.times i) 0) c (length w.names))
     where
-      le : get_or w.times c 0 ≤ get_or w.times i 0
+      le : unwrap_or (slice_get w.times c) 0 ≤ unwrap_or (slice_get w.times i) 0
       le = elim (cases_lt c i) [
         | inl b ↦ (let r = h.rise c i b t in omega arith)
         | inr
-            b ↦ (let e : c ≡ i = omega arith in let q : get_or w.times c 0 ≡ get_or w.times i 0 = ap (λ j. get_or w.times j 0) e in omega arith)
+            b ↦ (let e : c ≡ i = omega arith in let q : unwrap_or (slice_get w.times c) 0 ≡ unwrap_or (slice_get w.times i) 0 = ap
+            (λ j. unwrap_or (slice_get w.times j) 0) e in omega arith)
       ]
 
-      not_later : nat_lt (get_or w.times i 0) (digits_value 10 (decimal (get_or w.times c 0))) ≡ false
-      not_later = elim (cases_Bool (nat_lt (get_or w.times i 0) (digits_value 10 (decimal (get_or w.times c 0))))) [
+      not_later : nat_lt (unwrap_or (slice_get w.times i) 0) (digits_value 10 (decimal (unwrap_or (slice_get w.times c) 0))) ≡ false
+      not_later = elim (cases_Bool (nat_lt (unwrap_or (slice_get w.times i) 0) (digits_value 10 (decimal (unwrap_or (slice_get w.times c) 0))))) [
         | inr f ↦ f
         | inl f ↦ absurd (let q : ⊥ = omega (arith, ltb-true _ _ f, le, h.read c (omega arith)) in q)
       ]
 
-  up_to_body : (i count : ℕ) → i < count → count ≤ length w.times → up_to (get_or w.times i 0) (body_pieces w count) ≡ body_pieces w (suc i)
+  up_to_body : (i count : ℕ) → i < count → count ≤ length w.times → up_to (unwrap_or (slice_get w.times i) 0) (body_pieces w count) ≡ body_pieces w (suc i)
   up_to_body i zero l b = absurd (omega arith)
   up_to_body i (suc c) l b = elim (cases_lt i c) [
-    | inl lt ↦ cut_later (get_or w.times i 0) (decimal (get_or w.times c 0)) (body_pieces w c) (change_pieces w c (length w.names))
+    | inl lt ↦ cut_later (unwrap_or (slice_get w.times i) 0) (decimal (unwrap_or (slice_get w.times c) 0)) (body_pieces w c)
+        (change_pieces w c (length w.names))
         (let r = h.rise i c lt (omega arith) in omega (arith, h.read c (omega arith))) ∙ up_to_body i c lt (omega arith)
-    | inr le ↦ (let e : c ≡ i = omega arith in rw e (uncut (get_or w.times i 0) (body_pieces w (suc i)) (body_quiet i (suc i) (omega arith) (omega arith))))
+    | inr le ↦ (let e : c ≡ i = omega arith in rw e (uncut (unwrap_or (slice_get w.times i) 0) (body_pieces w (suc i))
+        (body_quiet i (suc i) (omega arith) (omega arith))))
   ]
 
   -- the word of a variable at a time
   pub word_meant : (i k : ℕ) → i < length w.times → k < length w.names
-      → last_given (code_of k) 0 (up_to (get_or w.times i 0) (body_pieces w (length w.times))) ≡ wave_word w i k
+      → last_given (code_of k) 0 (up_to (unwrap_or (slice_get w.times i) 0) (body_pieces w (length w.times))) ≡ wave_word w i k
   word_meant i k t l = ap (last_given (code_of k) 0) (up_to_body i (length w.times) t (omega arith)) ∙ body_given i k t l
 
   -- ---- all times
 
-  pub body_time : (i : ℕ) → i < length w.times → time_of None (body_pieces w (suc i)) ≡ Some (get_or w.times i 0)
+  pub body_time : (i : ℕ) → i < length w.times → time_of None (body_pieces w (suc i)) ≡ Some (unwrap_or (slice_get w.times i) 0)
   body_time i t =
       time_append None (body_pieces w i) (time_pieces w i)
-      ∙ (quiet_time (Some (digits_value 10 (decimal (get_or w.times i 0)))) (change_pieces w i (length w.names)) (changes_no_time w i (length w.names)) ∙
+      ∙ (quiet_time (Some (digits_value 10 (decimal (unwrap_or (slice_get w.times i) 0)))) (change_pieces w i (length w.names))
+      (changes_no_time w i (length w.names)) ∙
       ap (λ n. Some n) (h.read i t))
 
-  one_time : (i : ℕ) → i < length w.times → times_from (time_of None (body_pieces w i)) (time_pieces w i) ≡ get_or w.times i 0 ∷ []
+  one_time : (i : ℕ) → i < length w.times → times_from (time_of None (body_pieces w i)) (time_pieces w i) ≡ unwrap_or (slice_get w.times i) 0 ∷ []
   one_time i t =
-      ap (next_time (time_of None (body_pieces w i)) (digits_value 10 (decimal (get_or w.times i 0))))
-      (quiet_times (Some (digits_value 10 (decimal (get_or w.times i 0)))) (change_pieces w i (length w.names)) (changes_no_time w i (length w.names)))
+      ap (next_time (time_of None (body_pieces w i)) (digits_value 10 (decimal (unwrap_or (slice_get w.times i) 0))))
+      (quiet_times (Some (digits_value 10 (decimal (unwrap_or (slice_get w.times i) 0)))) (change_pieces w i (length w.names))
+      (changes_no_time w i (length w.names)))
       ∙ (ap (λ n. next_time (time_of None (body_pieces w i)) n []) (h.read i t) ∙ next i t)
     where
-      next : (i : ℕ) → i < length w.times → next_time (time_of None (body_pieces w i)) (get_or w.times i 0) [] ≡ get_or w.times i 0 ∷ []
+      next : (i : ℕ) → i < length w.times → next_time (time_of None (body_pieces w i)) (unwrap_or (slice_get w.times i) 0) [] ≡ unwrap_or
+          (slice_get w.times i) 0 ∷ []
       next zero t = refl
       next (suc i) t =
-          let apart : (get_or w.times i 0 == get_or w.times (suc i) 0) ≡ false = ne_eqb (get_or w.times i 0) (get_or w.times (suc i) 0)
+          let apart : (unwrap_or (slice_get w.times i) 0 == unwrap_or (slice_get w.times (suc i)) 0) ≡ false = ne_eqb (unwrap_or (slice_get w.times i) 0)
+          (unwrap_or (slice_get w.times (suc i)) 0)
           (λ e. (let r = h.rise i (suc i) (omega arith) t in let f : ⊥ = omega arith in f)) in
-          ap (λ o. next_time o (get_or w.times (suc i) 0) []) (body_time i (omega arith)) ∙ ap (λ b. if b then [] else get_or w.times (suc i) 0 ∷ []) apart
+          ap (λ o. next_time o (unwrap_or (slice_get w.times (suc i)) 0) []) (body_time i (omega arith)) ∙
+          ap (λ b. if b then [] else unwrap_or (slice_get w.times (suc i)) 0 ∷ []) apart
 
   first_times : (count : ℕ) → count ≤ length w.times → times_from None (body_pieces w count) ≡ take count w.times
   first_times zero l = refl
@@ -285,7 +297,7 @@ module _ (w : WaveTree) (h : HasCodes w) where
       let one : i + 1 ≡ suc i = omega arith in
       times_append None (body_pieces w i) (time_pieces w i)
       ∙ ((λ k. first_times i (omega arith) k ++ one_time i l k)
-      ∙ (sym (take_more w.times i 0 l) ∙ ap (λ n. take n w.times) one))
+      ∙ (ap (λ x. take i w.times ++ x ∷ []) (unwrap_or-slice_get w.times i 0) ∙ (sym (take_more w.times i 0 l) ∙ ap (λ n. take n w.times) one)))
 
   pub times_meant : times_from None (body_pieces w (length w.times)) ≡ w.times
   times_meant = first_times (length w.times) (omega arith) ∙ take-length w.times
@@ -293,16 +305,18 @@ module _ (w : WaveTree) (h : HasCodes w) where
   -- ---- all words
 
   row : (vs : List Variable) (i count : ℕ) → i < length w.times → count ≤ length w.names → length w.words ≡ length w.times * length w.names
-      → map (λ (v : Variable). last_given v.code 0 (up_to (get_or w.times i 0) (body_pieces w (length w.times)))) (wave_variables w count) ≡ take count
+      → map (λ (v : Variable). last_given v.code 0 (up_to (unwrap_or (slice_get w.times i) 0) (body_pieces w (length w.times))))
+      (wave_variables w count) ≡ take count
       (drop (i * length w.names) w.words)
   row vs i zero t l whole = refl
   row vs i (suc k) t l whole =
-      let f : Variable → ℕ = λ v. last_given v.code 0 (up_to (get_or w.times i 0) (body_pieces w (length w.times))) in
+      let f : Variable → ℕ = λ v. last_given v.code 0 (up_to (unwrap_or (slice_get w.times i) 0) (body_pieces w (length w.times))) in
       let one : k + 1 ≡ suc k = omega arith in
       let inside : i * length w.names + length w.names ≤ length w.times * length w.names = row_room i (length w.times) (length w.names) t in
       let long : k < length (drop (i * length w.names) w.words) = omega (arith, length-drop (i * length w.names) w.words) in
       map-append f (wave_variables w k) (wave_variable w k ∷ [])
-      ∙ ((λ j. row vs i k t (omega arith) whole j ++ (word_meant i k t l ∙ sym (get_or-drop (i * length w.names) w.words k 0)) j ∷ [])
+      ∙ ((λ j. row vs i k t (omega arith) whole j ++ (word_meant i k t l ∙
+      (unwrap_or-slice_get w.words (i * length w.names + k) 0 ∙ sym (get_or-drop (i * length w.names) w.words k 0))) j ∷ [])
       ∙ (sym (take_more (drop (i * length w.names) w.words) k 0 long) ∙ ap (λ n. take n (drop (i * length w.names) w.words)) one))
     where
       row_room : (i n v : ℕ) → i < n → i * v + v ≤ n * v
@@ -315,11 +329,12 @@ module _ (w : WaveTree) (h : HasCodes w) where
   first_rows (suc i) l whole =
       let f : ℕ → List ℕ = words_at_time (wave_variables w (length w.names)) (body_pieces w (length w.times)) in
       let one : i + 1 ≡ suc i = omega arith in
-      let more : take (suc i) w.times ≡ take i w.times ++ get_or w.times i 0 ∷ [] = ap (λ n. take n w.times) (sym one) ∙ take_more w.times i 0 l in
+      let more : take (suc i) w.times ≡ take i w.times ++ unwrap_or (slice_get w.times i) 0 ∷ [] =
+      ap (λ n. take n w.times) (sym one) ∙ (take_more w.times i 0 l ∙ ap (λ x. take i w.times ++ x ∷ []) (sym (unwrap_or-slice_get w.times i 0))) in
       let next : suc i * length w.names ≡ i * length w.names + length w.names = omega arith in
       ap (flat_map f) more
-      ∙ (flat_map-append f (take i w.times) (get_or w.times i 0 ∷ [])
-      ∙ ((λ j. first_rows i (omega arith) whole j ++ append_none (f (get_or w.times i 0)) j)
+      ∙ (flat_map-append f (take i w.times) (unwrap_or (slice_get w.times i) 0 ∷ [])
+      ∙ ((λ j. first_rows i (omega arith) whole j ++ append_none (f (unwrap_or (slice_get w.times i) 0)) j)
       ∙ (ap (λ (l : List ℕ). take (i * length w.names) w.words ++ l) (row [] i (length w.names) l (omega arith) whole)
       ∙ (sym (take-add (i * length w.names) (length w.names) w.words) ∙ ap (λ n. take n w.words) (sym next)))))
     where

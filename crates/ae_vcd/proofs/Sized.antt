@@ -8,6 +8,7 @@ use Rattle.std.proofs.lemmas.Bool.{eq-eqb, eqb-true, leb-true, ltb-true}
 use Rattle.std.proofs.lemmas.List.{append_assoc, get_or-append-add, get_or-map, get_or_append_left, length-map}
 use Rattle.std.proofs.lemmas.Slice.Eq.{bytes_eq-Decides}
 use Rattle.std.proofs.lemmas.Nat.{pow_pos}
+use Rattle.std.proofs.lemmas.Option.{unwrap_or-slice_get}
 use Rattle.ae_vcd.specs.Waves.{IsFormedWave, WaveTree, is_variable_name, most_variables, size_limit, wave_size}
 use Rattle.ae_vcd.specs.Forms.{AreCommands, ArePieces, Binary, Bit, HeaderCommand, Comment, Declare, IsHeaderCommand, IsPiece, Other, Piece, Silent, Time, Variable, agrees, declared, is_after, is_bit, is_time, takes, time_after, variables}
 use Rattle.ae_vcd.specs.Readings.{IsVcd, given, last_given, next_time, times_from, up_to, wave_of, words_at_time}
@@ -323,9 +324,15 @@ wave_formed text w h small =
               ∙ (flat_at (words_at_time vs ps) (length vs) (times_from None ps) i k rows a low ∙
               get_or-map (λ (v : Variable). last_given v.code 0 (up_to (get_or (times_from None ps) i 0) ps)) vs k d 0 low) in
               let wide : get_or (map (λ (v : Variable). v.width) vs) k 0 ≡ v.width = get_or-map (λ (v : Variable). v.width) vs k d 0 low in
-              rw (at, wide) (last_fits vs v None (up_to (get_or (times_from None ps) i 0) ps) 0 agree (among_at vs k d low)
+              rw (
+                unwrap_or-slice_get (flat_map (words_at_time vs ps) (times_from None ps)) (i * length (map (λ (v : Variable). v.name) vs) + k) 0,
+                unwrap_or-slice_get (map (λ (v : Variable). v.width) vs) k 0,
+                at,
+                wide,
+              ) (last_fits vs v None (up_to (get_or (times_from None ps) i 0) ps) 0 agree (among_at vs k d low)
               (up_to_are vs None (get_or (times_from None ps) i 0) ps pieces) (pow_pos v.width)));
-          rise = λ i l. first_rises (times_from None ps) i times.0 l;
+          rise = λ i l. rw (unwrap_or-slice_get (times_from None ps) i 0, unwrap_or-slice_get (times_from None ps) (i + 1) 0)
+              (first_rises (times_from None ps) i times.0 l);
           late = late_all (times_from None ps) times.1;
           small = small;
         }

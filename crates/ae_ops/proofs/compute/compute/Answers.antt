@@ -1,12 +1,13 @@
 -- Each operator by the cells that it is made of.
-use Rattle.std.proofs.Common.{◌≡◌, arith, false, refl}
+use Rattle.std.proofs.Common.{◌≡◌, arith, false, refl, subst}
 use Rattle.ae_word.specs.WordTable.{is_signed}
 use Rattle.ae_word.specs.declared.op.WordOp.TheVariants.{SLt, SMax, SMin}
 use Rattle.ae_netlist.specs.Circuit.{IsNet}
 use Rattle.ae_gates.proofs.Adding.{adds_most}
 use Rattle.ae_netlist.proofs.Growing.{main_is}
+use Rattle.ae_netlist.proofs.ReadAt.{operand_got}
 use Rattle.ae_gates.proofs.Added.{result_at}
-use Rattle.ae_ops.proofs.Computing.{cast_words, most_of, operation_of, pair_operands, sar_words}
+use Rattle.ae_ops.proofs.Computing.{cast_words, most_of, operation_of, pair_operands, sar_words, two_words}
 use Rattle.ae_ops.proofs.compute.compute.Goals as goal
 
 pub operate-requires-clause-operation : goal.operate-requires-clause-operation
@@ -27,7 +28,9 @@ pub returns-in-SLt-clause-net : goal.returns-in-SLt-clause-net
 returns-in-SLt-clause-net c = rw c.in-SLt.is c.less_signed.ensures.net
 
 pub returns-in-SLt-clause-words : goal.returns-in-SLt-clause-words
-returns-in-SLt-clause-words c = rw c.in-SLt.is c.less_signed.ensures.words
+returns-in-SLt-clause-words c =
+    rw c.in-SLt.is (two_words c.less_signed.result _ c.less_signed.new.nl.cells SLt c.args.width c.args.args _ _ (λ x y z u. refl) (operand_got c.args.args 0)
+    (operand_got c.args.args 1) c.less_signed.ensures.words)
 
 pub least_signed-requires-clause-left : goal.least_signed-requires-clause-left
 least_signed-requires-clause-left c = (pair_operands SMin (IsNet c.args.nl.now.cells) c.args.args c.args.width refl (rw c.in-SMin.is at c.requires.operands)).0
@@ -42,7 +45,10 @@ pub returns-in-SMin-clause-net : goal.returns-in-SMin-clause-net
 returns-in-SMin-clause-net c = rw c.in-SMin.is c.least_signed.ensures.net
 
 pub returns-in-SMin-clause-words : goal.returns-in-SMin-clause-words
-returns-in-SMin-clause-words c = rw c.in-SMin.is c.least_signed.ensures.words
+returns-in-SMin-clause-words c =
+    rw c.in-SMin.is (two_words c.least_signed.result _ c.least_signed.new.nl.cells SMin c.args.width c.args.args _ _ (λ x y z u. refl)
+    (operand_got c.args.args 0)
+    (operand_got c.args.args 1) c.least_signed.ensures.words)
 
 pub greatest_signed-requires-clause-left : goal.greatest_signed-requires-clause-left
 greatest_signed-requires-clause-left c =
@@ -59,10 +65,14 @@ pub returns-in-SMax-clause-net : goal.returns-in-SMax-clause-net
 returns-in-SMax-clause-net c = rw c.in-SMax.is c.greatest_signed.ensures.net
 
 pub returns-in-SMax-clause-words : goal.returns-in-SMax-clause-words
-returns-in-SMax-clause-words c = rw c.in-SMax.is c.greatest_signed.ensures.words
+returns-in-SMax-clause-words c =
+    rw c.in-SMax.is (two_words c.greatest_signed.result _ c.greatest_signed.new.nl.cells SMax c.args.width c.args.args _ _ (λ x y z u. refl)
+    (operand_got c.args.args 0)
+    (operand_got c.args.args 1) c.greatest_signed.ensures.words)
 
 pub by_sign-requires-clause-net : goal.by_sign-requires-clause-net
-by_sign-requires-clause-net c = (rw c.in-Sar.is at c.requires.operands).0
+by_sign-requires-clause-net c =
+    subst (λ n. IsNet c.args.nl.now.cells n c.args.width) (operand_got c.args.args 0) (rw c.in-Sar.is at c.requires.operands).0
 
 pub returns-in_ok-y-in-Sar-clause-adds : goal.returns-in_ok-y-in-Sar-clause-adds
 returns-in_ok-y-in-Sar-clause-adds c = rw c.in-Sar.is (adds_most 8 (omega arith) c.in_ok-y-in-Sar.ensures.adds)
@@ -71,7 +81,8 @@ pub returns-in_ok-y-in-Sar-clause-net : goal.returns-in_ok-y-in-Sar-clause-net
 returns-in_ok-y-in-Sar-clause-net c = rw c.in-Sar.is c.in_ok-y-in-Sar.ensures.net
 
 pub by_sign-requires-in-SCast-clause-net : goal.by_sign-requires-in-SCast-clause-net
-by_sign-requires-in-SCast-clause-net c = (rw c.in-SCast.is at c.requires.operands).0
+by_sign-requires-in-SCast-clause-net c =
+    subst (λ n. IsNet c.args.nl.now.cells n c.args.width) (operand_got c.args.args 0) (rw c.in-SCast.is at c.requires.operands).0
 
 pub returns-in_ok-y-in-SCast-clause-adds : goal.returns-in_ok-y-in-SCast-clause-adds
 returns-in_ok-y-in-SCast-clause-adds c = rw c.in-SCast.is (adds_most 8 (omega arith) c.in_ok-y-in-SCast.ensures.adds)
@@ -81,14 +92,16 @@ returns-in_ok-y-in-SCast-clause-net c = rw c.in-SCast.is c.in_ok-y-in-SCast.ensu
 
 pub returns-in_ok-y-in-Sar-clause-words : goal.returns-in_ok-y-in-Sar-clause-words
 returns-in_ok-y-in-Sar-clause-words c =
-    sar_words _ _ c.in_ok-y-in-Sar.y _ c.args.args c.in-Sar.k c.args.width c.in-Sar.is c.in_ok-y-in-Sar.ensures.adds.grows
-    (rw c.in-Sar.is at c.requires.operands).0
+    sar_words _ _ c.in_ok-y-in-Sar.y _ c.args.args c.in-Sar.k c.args.width _ c.in-Sar.is c.in_ok-y-in-Sar.ensures.adds.grows (operand_got c.args.args 0)
+    (subst (λ n. IsNet c.args.nl.now.cells n c.args.width) (operand_got c.args.args 0) (rw c.in-Sar.is at c.requires.operands).0)
     c.in_ok-y-in-Sar.ensures.words
 
 pub returns-in_ok-y-in-SCast-clause-words : goal.returns-in_ok-y-in-SCast-clause-words
 returns-in_ok-y-in-SCast-clause-words c =
-    cast_words _ _ c.in_ok-y-in-SCast.y _ c.args.args c.in-SCast.v c.args.width c.in-SCast.is c.in_ok-y-in-SCast.ensures.adds.grows
-    (rw c.in-SCast.is at c.requires.operands).0 c.in_ok-y-in-SCast.ensures.words
+    cast_words _ _ c.in_ok-y-in-SCast.y _ c.args.args c.in-SCast.v c.args.width _ c.in-SCast.is c.in_ok-y-in-SCast.ensures.adds.grows
+    (operand_got c.args.args 0)
+    (subst (λ n. IsNet c.args.nl.now.cells n c.args.width) (operand_got c.args.args 0) (rw c.in-SCast.is at c.requires.operands).0)
+    c.in_ok-y-in-SCast.ensures.words
 
 pub returns-in-Add-clause-adds : goal.returns-in-Add-clause-adds
 returns-in-Add-clause-adds c = most_of _ _ c.operate.result 1 _ (omega arith) c.operate.ensures.adds

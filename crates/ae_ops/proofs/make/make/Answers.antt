@@ -1,9 +1,10 @@
 -- A square, a sum, and any other result.
-use Rattle.std.proofs.Common.{arith, refl, sym}
+use Rattle.std.proofs.Common.{arith, refl, sym, ◌∙◌}
 use Rattle.std.proofs.lemmas.Bool.{eqb-true}
 use Rattle.ae_word.specs.declared.op.WordOp.TheVariants.{Add, Mul}
 use Rattle.ae_netlist.specs.Circuit.{IsNet}
 use Rattle.ae_gates.proofs.Adding.{adds_most}
+use Rattle.ae_netlist.proofs.ReadAt.{operand_got}
 use Rattle.ae_ops.proofs.Computing.{pair_operands}
 use Rattle.ae_ops.proofs.Squares.{at_once, square_words, sum_words}
 use Rattle.ae_ops.proofs.make.make.Goals as goal
@@ -22,7 +23,8 @@ returns-in_ok-net-in-Mul-clause-late c = rw c.in-Mul.is (omega arith)
 
 pub returns-in_ok-net-in-Mul-clause-words : goal.returns-in_ok-net-in-Mul-clause-words
 returns-in_ok-net-in-Mul-clause-words c =
-    rw c.in-Mul.is (square_words _ _ _ c.args.width c.args.args refl (sym (eqb-true _ _ (sym c.if-eq.ensures))) c.in_ok-net-in-Mul.ensures.words)
+    rw c.in-Mul.is (square_words _ _ _ c.args.width c.args.args (operand_got c.args.args 0)
+    (operand_got c.args.args 1 ∙ sym (eqb-true _ _ (sym c.if-eq.ensures))) c.in_ok-net-in-Mul.ensures.words)
 
 pub sum_of-requires-clause-left : goal.sum_of-requires-clause-left
 sum_of-requires-clause-left c = (pair_operands Add (IsNet c.args.nl.now.cells) c.args.args c.args.width refl (rw c.in-Add.is at c.requires.operands)).0
@@ -37,7 +39,8 @@ pub returns-in_ok-net-in-Add-clause-net : goal.returns-in_ok-net-in-Add-clause-n
 returns-in_ok-net-in-Add-clause-net c = rw c.in-Add.is c.in_ok-net-in-Add.ensures.net
 
 pub returns-in_ok-net-in-Add-clause-words : goal.returns-in_ok-net-in-Add-clause-words
-returns-in_ok-net-in-Add-clause-words c = rw c.in-Add.is (sum_words _ _ c.args.width c.args.args _ _ refl refl c.in_ok-net-in-Add.ensures.words)
+returns-in_ok-net-in-Add-clause-words c = rw c.in-Add.is (sum_words _ _ c.args.width c.args.args _ _ (operand_got c.args.args 0)
+    (operand_got c.args.args 1) c.in_ok-net-in-Add.ensures.words)
 
 pub returns-in_ok-net-in-Sub-clause-adds : goal.returns-in_ok-net-in-Sub-clause-adds
 returns-in_ok-net-in-Sub-clause-adds c = adds_most 9 (omega arith) c.in_ok-net-in-Sub.ensures.adds
