@@ -16,6 +16,7 @@ ROWS = [
     ("sum", 4, 8 + 2 + 1),  # the sum so far, a clock of four, and the mark of its first
     ("row_sum", 6, 3 * 8 + 3 + 1),  # a row, one clock of six for the fold and the move behind it, and the mark
     ("shift", 3, 8 + 2 + 1),  # the word that waits, a clock of three, and the mark of its first
+    ("twice", 3, 8 + 2 + 1 + 2 * 8),  # what two lines ask for is there once: a word that waits, a clock, its mark; and two sums
     ("partition", 6, 3 * 8 + 8 + 2 * 3),  # three words that wait, a choice, and two clocks: the choice is made one early
     ("running_sum", 2, 2 * 8 + 2 * 8 + 1),  # the first word and the sum of a pair, two running sums, and the clock
 ]
